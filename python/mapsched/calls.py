@@ -237,14 +237,52 @@ class Header:
     data_end: int
 
 
-Call = Union[Admit, Remove, Ask, Heard, Build, Skip, Status, Reserve, Header]
+@dataclass(frozen=True)
+class Replace:
+    """A request, as in an ask, that supersedes those before: the flow waits for so much and no more, with 0 for
+    nothing. The reply is `Taken`."""
+
+    receiver: int
+    sid: int
+    bytes: Optional[int] = None
+    heard: int = _MUST
+    slots: Optional[int] = None
+
+    def __post_init__(self) -> None:
+        _one_of(self, "bytes", "slots")
+
+
+@dataclass(frozen=True)
+class Change:
+    """Gives a live flow other parameters of the same kind. What it asked for and what it was granted stay. The reply is
+    `Changed`."""
+
+    sid: int
+    flow: Flow
+
+
+@dataclass(frozen=True)
+class Rest:
+    """Lets an unsolicited flow rest: it is polled in the place of its grants. The reply is `Noted`."""
+
+    sid: int
+
+
+@dataclass(frozen=True)
+class Wake:
+    """Gives an unsolicited flow that rests its grants again. The reply is `Noted`."""
+
+    sid: int
+
+
+Call = Union[Admit, Remove, Ask, Heard, Build, Skip, Status, Reserve, Header, Replace, Change, Rest, Wake]
 # checks/tables: flows and calls end
 
 # checks/tables: names begin
 # By the numbers of the header, and by the names in a script.
 _CALLS = {
     "admit": Admit, "remove": Remove, "ask": Ask, "heard": Heard, "build": Build, "skip": Skip, "status": Status,
-    "reserve": Reserve, "header": Header,
+    "reserve": Reserve, "header": Header, "replace": Replace, "change": Change, "rest": Rest, "wake": Wake,
 }
 _FLOWS = {"unsolicited": Unsolicited, "polled": Polled, "best_effort": BestEffort}
 _USAGES = ["initial", "station"]

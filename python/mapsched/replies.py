@@ -33,6 +33,9 @@ class Refusal(IntEnum):
     BAD_LENGTH = 18
     TOO_MANY_RESERVES = 19
     BAD_BACKOFF = 20
+    OTHER_KIND = 21
+    NOT_UNSOLICITED = 22
+    TOO_SHORT = 23
     # checks/tables: refusals end
 
 

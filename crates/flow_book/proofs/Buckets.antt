@@ -1,5 +1,6 @@
 -- The grants that a bucket stands for, before and after one more.
-use Rattle.std.proofs.Common.{◌≡◌, ◌≢◌, refl, sym, subst, ℕ, ◌+◌, ◌-◌, ◌*◌, ◌/◌, ◌<◌, ◌≤◌, ◌^◌, ◌==◌, min, List, ◌++◌}
+use Rattle.std.proofs.Common.{◌≡◌, ◌≢◌, refl, sym, ap, ◌∙◌, subst, ℕ, ◌+◌, ◌-◌, ◌*◌, ◌/◌, ◌<◌, ◌≤◌, ◌^◌, ◌==◌, min}
+use Rattle.std.proofs.Common.{List, ◌++◌}
 use Rattle.std.proofs.Common.{false, inl, inr, arith}
 use Rattle.std.proofs.lemmas.Nat.{mul-lt, mul-le}
 use Rattle.std.proofs.lemmas.Bool.{cases_eq}
@@ -7,9 +8,10 @@ use Rattle.std.proofs.lemmas.Bool.Decides.{nat_tests}
 use Rattle.minislots.specs.declared.config.Config.{Config}
 use Rattle.flow_book.specs.declared.flow.Grant.{Grant}
 use Rattle.flow_book.specs.Ceiling.{KeepsCeiling}
-use Rattle.flow_book.specs.Bucket.{BucketView, level_of, most_of, HaveStartedBy, StandsFor, IsLevel}
+use Rattle.flow_book.specs.Bucket.{BucketView, level_of, most_of, HaveStartedBy, StandsFor, IsLevel, IsSettled}
 use Rattle.flow_book.proofs.Windows.{one_more}
 use Rattle.flow_book.proofs.Levels.{level-keeps, keeps-level, level-more, started-front}
+use Rattle.flow_book.proofs.Started.{started-more}
 
 -- what a rate brings in a minislot
 pub slow : (ticks rate : ℕ) → ticks ≤ 128 → rate < 2 ^ 32 → ticks * rate < 2 ^ 40
@@ -98,4 +100,60 @@ module _ (c : Config) (rate burst : ℕ) (b : BucketView) (grants : List Grant)
     most-greatest limit le kept = elim (cases_eq b.per_slot 0) [
       | inl e ↦ (let most = most-limit b slot limit e in omega arith)
       | inr differ ↦ (let most = most-limited b slot limit differ in omega (arith, has-more (omega arith) kept))
+    ]
+
+-- a bucket with a ceiling that has less is settled by one grant more, from its start on
+pub settled-spent : (b : BucketView) (grants : List Grant) (slot n left : ℕ) → 0 < b.per_slot → left ≤ b.full
+    → HaveStartedBy slot grants
+    → IsSettled (record b { level = left; since = slot }) (grants ++ one_more slot n)
+settled-spent b grants slot n left some within started = record {
+  level = within;
+  started = λ limited. started-more slot n grants started;
+  first = λ none. absurd (omega (arith, none, some));
+}
+
+-- at the minislot from which on it is counted a bucket has its level
+level-now : (b : BucketView) (slot : ℕ) → b.level ≤ b.full → slot ≡ b.since → level_of b slot ≡ b.level
+level-now b slot within same =
+    let none : slot - b.since ≡ 0 = omega arith in
+    rw none (omega arith)
+
+same-fields : (x y : BucketView) → x.per_slot ≡ y.per_slot → x.full ≡ y.full → x.level ≡ y.level → x.since ≡ y.since
+    → x ≡ y
+same-fields x y per full level since =
+    ap (λ n. record { per_slot = n; full = x.full; level = x.level; since = x.since }) per
+    ∙ ap (λ n. record { per_slot = y.per_slot; full = n; level = x.level; since = x.since }) full
+    ∙ ap (λ n. record { per_slot = y.per_slot; full = y.full; level = n; since = x.since }) level
+    ∙ ap (λ n. record { per_slot = y.per_slot; full = y.full; level = y.level; since = n }) since
+
+-- the grants that it stands for decide a bucket
+pub same-bucket : (c : Config) (rate burst : ℕ) (x y : BucketView) (grants : List Grant)
+    → StandsFor c rate burst x grants
+    → StandsFor c rate burst y grants → IsSettled x grants → IsSettled y grants → x ≡ y
+same-bucket c rate burst x y grants stands stands' is is' =
+    let per : x.per_slot ≡ y.per_slot = stands.per_slot ∙ sym stands'.per_slot in
+    let full : x.full ≡ y.full = stands.full ∙ sym stands'.full in
+    elim (cases_eq x.per_slot 0) [
+      | inl none ↦ (
+          let free = no-ceiling c rate burst x grants stands none in
+          let empty : x.full ≡ 0 = rw free at stands.full in
+          same-fields x y per full (omega (arith, is.level, is'.level)) (omega (
+            arith,
+            is.first none,
+            is'.first
+                (sym per ∙ none),
+          )))
+      | inr differ ↦ (
+          let some : 0 < x.per_slot = omega arith in
+          let some' : 0 < y.per_slot = omega arith in
+          let limited = some-ceiling c rate burst x grants stands some in
+          let early = stands.since y.since (is'.started some') in
+          let late = stands'.since x.since (is.started some) in
+          let since : x.since ≡ y.since = omega arith in
+          let mine = stands.level limited x.since (is.started some) in
+          let yours = stands'.level limited x.since (is.started some) in
+          let below = mine.greatest (level_of y x.since) yours.left in
+          let above = yours.greatest (level_of x x.since) mine.left in
+          same-fields x y per full
+          (omega (arith, below, above, level-now x x.since is.level refl, level-now y x.since is'.level since)) since)
     ]

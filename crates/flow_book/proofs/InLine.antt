@@ -1,12 +1,12 @@
 -- The flow behind the first so many that wait in line.
 use Rattle.std.proofs.Common.{◌≡◌, ◌≢◌, refl, sym, ap, ◌∙◌, subst, ℕ, zero, suc, ◌+◌, ◌/◌, ◌^◌, ◌<◌, ◌≤◌}
 use Rattle.std.proofs.Common.{Bool, true, false, not, ◌&&◌, nat_lt, List, [], ◌∷◌, map, filter, length, get_or}
-use Rattle.std.proofs.Common.{Option, Some, None, Contains, ◌++◌, append-nil, take, min, true≢false, inl, inr, arith}
+use Rattle.std.proofs.Common.{Option, Some, None, Contains, take, min, true≢false, inl, inr, arith}
 use Rattle.std.specs.List.{AllByRecursion, count_by}
 use Rattle.std.proofs.lemmas.Bool.{cond_both, cases_lt}
 use Rattle.std.proofs.lemmas.Bool.Decides.{nat_tests}
-use Rattle.std.proofs.lemmas.List.{length-map, length-take, get_or-take, get_or_default, map-append}
-use Rattle.std.proofs.lemmas.List.Elements.{All-from_recursion, recursion_from_All, filter-append}
+use Rattle.std.proofs.lemmas.List.{length-map, length-take, get_or-take, get_or_default}
+use Rattle.std.proofs.lemmas.List.Elements.{All-from_recursion, recursion_from_All}
 use Rattle.std.proofs.lemmas.List.Sums.{length-filter}
 use Rattle.minislots.specs.declared.config.Config.{Config}
 use Rattle.sched_calls.specs.FlowSpec.{rank_of}
@@ -123,22 +123,6 @@ not-itself a n = let same : nat_lt n n ≡ false = grind (arith, nat_tests) in r
 both-first : (a b : Bool) → (a && b) ≡ true → a ≡ true
 both-first true b both = refl
 both-first false b both = both
-
--- with one more that waits its number stands behind theirs
-pub numbers-waits : (flows : List LiveFlow) (f : LiveFlow) → waits f ≡ true
-    → numbers_of (flows ++ f ∷ []) ≡ numbers_of flows ++ number_in_line f ∷ []
-numbers-waits flows f waiting =
-    let one : filter waits (f ∷ []) ≡ f ∷ [] = rw waiting refl in
-    ap (map number_in_line) (filter-append waits flows (f ∷ []) ∙ ap (λ fs. filter waits flows ++ fs) one)
-    ∙ map-append number_in_line (filter waits flows) (f ∷ [])
-
--- with one more that waits for nothing they are the same
-pub numbers-rests : (flows : List LiveFlow) (f : LiveFlow) → waits f ≡ false
-    → numbers_of (flows ++ f ∷ []) ≡ numbers_of flows
-numbers-rests flows f resting =
-    let none : filter waits (f ∷ []) ≡ [] = rw resting refl in
-    ap (map number_in_line) (filter-append waits flows (f ∷ []) ∙ ap (λ fs. filter waits flows ++ fs) none
-    ∙ append-nil (filter waits flows))
 
 -- the flows of a book have SIDs of 16 bits
 pub small-of : (c : Config) (items : List Flow) → AllByRecursion (KeepsSums c) items → AreSmall (map live items)

@@ -1,14 +1,15 @@
 -- Numbers that are put in order one by one, of which the first so many are kept.
-use Rattle.std.proofs.Common.{◌≡◌, refl, sym, ap, ◌∙◌, ℕ, zero, suc, ◌+◌, ◌<◌, ◌≤◌, Bool, true, false, cond, ◌==◌, nat_lt}
-use Rattle.std.proofs.Common.{List, [], ◌∷◌, ◌++◌, map, filter, find, take, length, get_or, Option, Some, None, ◌&&◌, ◌≢◌, true≢false, arith}
+use Rattle.std.proofs.Common.{◌≡◌, refl, sym, ap, ◌∙◌, ℕ, zero, suc, ◌+◌, ◌-◌, ◌<◌, ◌≤◌, Bool, true, false, cond, ◌==◌, nat_lt}
+use Rattle.std.proofs.Common.{List, [], ◌∷◌, ◌++◌, map, filter, find, take, length, get_or, slice_get, Option, Some, None, ◌&&◌, ◌≢◌, true≢false, arith}
 use Rattle.std.specs.List.{AllByRecursion, count_by}
 use Rattle.std.proofs.lemmas.Bool.{cond_both}
 use Rattle.std.proofs.lemmas.Bool.Decides.{nat_tests}
+use Rattle.std.proofs.lemmas.Option.{slice_get-get_or, same_Some}
 use Rattle.std.proofs.lemmas.List.{take-take}
 use Rattle.std.proofs.lemmas.List.Elements.{All-from_recursion}
 use Rattle.std.proofs.lemmas.List.Sums.{sum_by-cons}
 use Rattle.flow_book.specs.Sids.{AscendBy, put_in}
-use Rattle.flow_book.specs.Line.{itself, sorted_into}
+use Rattle.flow_book.specs.Line.{itself, sorted_into, IsInOrder}
 use Rattle.flow_book.proofs.Insertion.{all-put_in, length-put_in, ascends-put_in}
 
 -- the first so many with a number more are those of all with it
@@ -28,10 +29,24 @@ take-put_in (suc m) n (y ∷ ys) =
     take-cond (nat_lt n y) m n y ys (put_in itself n (take m ys)) (put_in itself n ys) (take-again m y ys)
     (take-put_in m n ys)
 
--- a number more at the end is put in last
-pub sorted_into-more : (line ns : List ℕ) (n : ℕ) → sorted_into line (ns ++ n ∷ []) ≡ put_in itself n (sorted_into line ns)
-sorted_into-more line [] n = refl
-sorted_into-more line (m ∷ ns) n = sorted_into-more (put_in itself m line) ns n
+-- none are the first of none
+pub take-none : (m : ℕ) → take {A = ℕ} m [] ≡ []
+take-none zero = refl
+take-none (suc m) = refl
+
+-- numbers behind others are put in behind them
+pub sorted_into-append : (line ns ms : List ℕ) → sorted_into line (ns ++ ms) ≡ sorted_into (sorted_into line ns) ms
+sorted_into-append line [] ms = refl
+sorted_into-append line (n ∷ ns) ms = sorted_into-append (put_in itself n line) ns ms
+
+put-cond : (m n y : ℕ) (ys : List ℕ) → put_in itself m (put_in itself n ys) ≡ put_in itself n (put_in itself m ys)
+    → put_in itself m (put_in itself n (y ∷ ys)) ≡ put_in itself n (put_in itself m (y ∷ ys))
+put-cond m n y ys same = grind (arith, nat_tests, same)
+
+-- two numbers are put in either first
+pub put_in-either : (m n : ℕ) (line : List ℕ) → put_in itself m (put_in itself n line) ≡ put_in itself n (put_in itself m line)
+put_in-either m n [] = grind (arith, nat_tests)
+put_in-either m n (y ∷ ys) = put-cond m n y ys (put_in-either m n ys)
 
 module _ {X : Type 0} where
   -- what holds of all holds of the first so many
@@ -40,12 +55,60 @@ module _ {X : Type 0} where
   all-take P (suc m) [] all = tt
   all-take P (suc m) (x ∷ xs) all = (all.0, all-take P m xs all.1)
 
-  -- and they ascend where all do
-  pub ascends-take : (number : X → ℕ) (m : ℕ) (xs : List X) → AscendBy number xs → AscendBy number (take m xs)
-  ascends-take number zero xs up = tt
-  ascends-take number (suc m) [] up = tt
-  ascends-take number (suc m) (x ∷ xs) up =
-      (all-take (λ y. number x < number y) m xs up.0, ascends-take number m xs up.1)
+all-later : (m n : ℕ) (ns : List ℕ) → m ≤ n → AllByRecursion (λ k. n ≤ k) ns → AllByRecursion (λ k. m ≤ k) ns
+all-later m n [] le all = tt
+all-later m n (k ∷ ns) le all = (omega (arith, all.0), all-later m n ns le all.1)
+
+-- with a number put in they stand in order
+pub order-put_in : (n : ℕ) (line : List ℕ) → IsInOrder line → IsInOrder (put_in itself n line)
+order-put_in n [] order = (tt, tt)
+order-put_in n (m ∷ line) order =
+    cond_both (nat_lt n m) (n ∷ m ∷ line) (m ∷ put_in itself n line) IsInOrder
+    (λ low. let le : n ≤ m = grind (arith, nat_tests) in ((le, all-later n m line le order.0), order))
+    (λ high. let le : m ≤ n = grind (arith, nat_tests) in
+    (all-put_in itself (λ k. m ≤ k) n line le order.0, order-put_in n line order.1))
+
+-- and the first so many of them
+pub order-take : (m : ℕ) (line : List ℕ) → IsInOrder line → IsInOrder (take m line)
+order-take zero line order = tt
+order-take (suc m) [] order = tt
+order-take (suc m) (n ∷ line) order = (all-take (λ k. n ≤ k) m line order.0, order-take m line order.1)
+
+-- none is less than one before it
+pub order-rises : (line : List ℕ) (i j d : ℕ) → IsInOrder line → i ≤ j → j < length line
+    → get_or line i d ≤ get_or line j d
+order-rises [] i j d order le lt = absurd (omega arith)
+order-rises (n ∷ line) zero zero d order le lt = omega arith
+order-rises (n ∷ line) (suc i) zero d order le lt = absurd (omega arith)
+order-rises (n ∷ line) zero (suc j) d order le lt =
+    All-from_recursion (λ k. n ≤ k) line order.0 j d (omega arith)
+order-rises (n ∷ line) (suc i) (suc j) d order le lt = order-rises line i j d order.1 (omega arith) (omega arith)
+
+-- a number no less than the last of a line comes behind it
+pub put_in-behind : (n : ℕ) (line : List ℕ) → ((i d : ℕ) → i < length line → get_or line i d ≤ n)
+    → put_in itself n line ≡ line ++ n ∷ []
+put_in-behind n [] all = refl
+put_in-behind n (m ∷ line) all =
+    let no' : nat_lt n m ≡ false = let le = all 0 0 (omega arith) in grind (arith, nat_tests) in
+    rw no' (ap (λ ns. m ∷ ns) (put_in-behind n line (λ i d lt. all (suc i) d (omega arith))))
+
+take-front : (xs : List ℕ) (n : ℕ) → take (length xs) (xs ++ n ∷ []) ≡ xs
+take-front [] n = refl
+take-front (x ∷ xs) n = ap (λ ys. x ∷ ys) (take-front xs n)
+
+-- the last of a line is no greater where its value is
+pub last-most : (line : List ℕ) (last n : ℕ) → Some last ≡ slice_get line (length line - 1) → last ≤ n
+    → (d : ℕ) → 0 < length line → get_or line (length line - 1) d ≤ n
+last-most line last n is le d some =
+    omega (arith, le, same_Some _ _ (sym (slice_get-get_or line (length line - 1) d (omega (arith, some))) ∙ sym is))
+
+-- and has no place among as many
+pub stays-behind : (m n : ℕ) (line : List ℕ) → IsInOrder line → length line ≡ m
+    → ((d : ℕ) → 0 < length line → get_or line (length line - 1) d ≤ n) → take m (put_in itself n line) ≡ line
+stays-behind m n line order full last =
+    ap (take m) (put_in-behind n line (λ i d lt.
+    omega (arith, order-rises line i (length line - 1) d order (omega arith) (omega arith), last d (omega arith))))
+    ∙ ap (λ k. take k (line ++ n ∷ [])) (sym full) ∙ take-front line n
 
 -- a number that none of them is
 abbrev pub IsNew : ℕ → List ℕ → Type 0

@@ -1,11 +1,8 @@
 -- Two lists in order go together where each member of one goes with a member of the other.
-use Rattle.std.proofs.Common.{◌≡◌, sym, subst, ℕ, zero, suc, ◌<◌, ◌⊎◌, inl, inr, Bool, true, false}
-use Rattle.std.proofs.Common.{List, [], ◌∷◌, map, filter, length, get_or, Contains, refl, ap, ◌&&◌, cond, arith}
+use Rattle.std.proofs.Common.{◌≡◌, sym, ℕ, zero, suc, ◌<◌, ◌⊎◌, inl, inr, Bool, true, false}
+use Rattle.std.proofs.Common.{List, [], ◌∷◌, map, filter, length, get_or, refl, ◌&&◌, cond, arith}
 use Rattle.std.specs.List.{AllByRecursion, AllZip}
-use Rattle.std.specs.List.Sorted.{IsPermutation}
 use Rattle.std.proofs.lemmas.Bool.{cond_both}
-use Rattle.std.proofs.lemmas.List.Elements.{All-from_recursion, recursion_from_All}
-use Rattle.std.proofs.lemmas.List.Sorted.{All-permutation, Contains-permutation}
 use Rattle.flow_book.specs.Sids.{AscendBy}
 
 -- one of them is such
@@ -14,30 +11,6 @@ Has P [] = ⊥
 Has P (x ∷ xs) = P x ⊎ Has P xs
 
 module _ {X : Type 0} (P : X → Type 0) where
-  pub has-at : (xs : List X) (k : ℕ) (d : X) → k < length xs → P (get_or xs k d) → Has P xs
-  has-at [] k d lt here = absurd (omega arith)
-  has-at (x ∷ xs) zero d lt here = inl here
-  has-at (x ∷ xs) (suc k) d lt here = inr (has-at xs k d (omega arith) here)
-
-  -- and so in another order
-  has-one : (xs : List X) → Has P xs → (x : X) × Contains xs x × P x
-  has-one [] has = absurd has
-  has-one (x ∷ xs) (inl here) = (x, (zero, omega arith, refl), here)
-  has-one (x ∷ xs) (inr rest) =
-      let found = has-one xs rest in
-      (found.0, (suc found.1.0, omega (arith, found.1.1), found.1.2), found.2)
-
-  pub has-permuted : (xs ys : List X) → IsPermutation xs ys → Has P xs → Has P ys
-  has-permuted xs ys moved has =
-      let found = has-one xs has in
-      let there = Contains-permutation xs ys found.0 moved found.1 in
-      has-at ys there.0 found.0 there.1 (subst P (sym there.2) found.2)
-
-  -- what holds of each holds of each in another order
-  pub all-permuted : (xs ys : List X) → IsPermutation xs ys → AllByRecursion P xs → AllByRecursion P ys
-  all-permuted xs ys moved all =
-      recursion_from_All P ys (All-permutation P xs ys moved (All-from_recursion P xs all))
-
   -- one of those that pass is such
   pub has-kept : (p : X → Bool) (xs : List X) (k : ℕ) (d : X) → k < length xs → p (get_or xs k d) ≡ true
       → P (get_or xs k d) → Has P (filter p xs)
@@ -60,11 +33,6 @@ module _ {X Y : Type 0} (P : Y → Type 0) (h : X → Y) where
   all-map [] all = tt
   all-map (x ∷ xs) all = (all.0, all-map xs all.1)
 
-  pub has-map : (xs : List X) → Has (λ x. P (h x)) xs → Has P (map h xs)
-  has-map [] has = has
-  has-map (x ∷ xs) (inl here) = inl here
-  has-map (x ∷ xs) (inr rest) = inr (has-map xs rest)
-
 module _ {X : Type 0} (p q : X → Bool) where
   -- tests that agree keep the same
   pub filter-same : (xs : List X) → AllByRecursion (λ x. p x ≡ q x) xs → filter p xs ≡ filter q xs
@@ -81,25 +49,8 @@ module _ {X : Type 0} (p q : X → Bool) where
   filter-both [] = refl
   filter-both (x ∷ xs) = both-cond (p x) x (filter p xs) _ (filter-both xs)
 
--- where all pass all are kept
-pub filter-all : {X : Type 0} (p : X → Bool) (xs : List X) → AllByRecursion (λ x. p x ≡ true) xs → filter p xs ≡ xs
-filter-all p [] all = refl
-filter-all p (x ∷ xs) all = rw all.0 (ap (λ ys. x ∷ ys) (filter-all p xs all.1))
-
 module _ {X Y : Type 0} (R : X → Y → Type 0) where
-  -- lists that go together still do where the same are kept of both
-  pub zip-filter : (p : X → Bool) (q : Y → Bool) (xs : List X) (ys : List Y) → ((x : X) (y : Y) → R x y → p x ≡ q y)
-      → AllZip R xs ys → AllZip R (filter p xs) (filter q ys)
-  zip-filter p q [] [] same zip = tt
-  zip-filter p q [] (y ∷ ys) same zip = absurd zip
-  zip-filter p q (x ∷ xs) [] same zip = absurd zip
-  zip-filter p q (x ∷ xs) (y ∷ ys) same zip =
-      let rest = zip-filter p q xs ys same zip.1 in
-      rw (same x y zip.0)
-      (cond_both (q y) (y ∷ filter q ys) (filter q ys) (λ zs. AllZip R (cond (q y) (x ∷ filter p xs) (filter p xs)) zs)
-      (λ kept. rw kept (zip.0, rest)) (λ out. rw out rest))
-
-  -- and have the same values
+  -- lists that go together have the same values
   pub zip-values : {Z : Type 0} (u : X → Z) (v : Y → Z) (xs : List X) (ys : List Y)
       → ((x : X) (y : Y) → R x y → v y ≡ u x) → AllZip R xs ys → map v ys ≡ map u xs
   zip-values u v [] [] same zip = refl

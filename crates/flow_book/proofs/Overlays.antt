@@ -1,10 +1,12 @@
 -- An overlay as its book's flows are, and with one data grant more.
-use Rattle.std.proofs.Common.{◌≡◌, ◌≢◌, refl, sym, ap, ◌∙◌, subst, ℕ, ◌+◌, ◌<◌, ◌==◌, ◌⊎◌, inl, inr, min, Option, List, [], ◌∷◌, ◌++◌}
-use Rattle.std.proofs.Common.{map, set, length, get_or, remove, slice_get, Some, option_map, arith}
+use Rattle.std.proofs.Common.{◌≡◌, ◌≢◌, refl, sym, ap, ◌∙◌, subst, ℕ, ◌+◌, ◌≤◌, ◌==◌, ◌⊎◌, inl, inr, min, Option}
+use Rattle.std.proofs.Common.{List, [], ◌∷◌, ◌++◌}
+use Rattle.std.proofs.Common.{map, filter, true, set, get_or, slice_get, Some, option_map, arith}
 use Rattle.std.specs.List.{AllZip, AllByRecursion}
+use Rattle.std.specs.Option.{IfSome}
 use Rattle.std.proofs.lemmas.Bool.{cases_eq, cond_both}
-use Rattle.std.proofs.lemmas.List.{length-set, get_or-set_same}
-use Rattle.std.proofs.lemmas.Option.{slice_get-map, slice_get-get_or, slice_get_within, get_or_from_slice_get, slice_get_read}
+use Rattle.std.proofs.lemmas.List.{length-set, length_push, get_or-set_same}
+use Rattle.std.proofs.lemmas.Option.{slice_get-map, slice_get-get_or, slice_get_within, get_or_from_slice_get}
 use Rattle.minislots.specs.declared.config.Config.{Config}
 use Rattle.minislots.specs.Config.{IsLawful}
 use Rattle.minislots.specs.Units.{bytes_in}
@@ -12,19 +14,25 @@ use Rattle.sched_calls.specs.FlowSpec.{rank_of, rate_of, burst_of}
 use Rattle.flow_book.specs.declared.flow.Flow.{Flow}
 use Rattle.flow_book.specs.declared.flow.Grant.{Grant}
 use Rattle.flow_book.specs.declared.queue.Waiting.{Waiting}
-use Rattle.flow_book.specs.Flows.{LiveFlow, with_grant}
-use Rattle.flow_book.specs.Bucket.{StandsFor, most_of, HasOneMore}
+use Rattle.flow_book.specs.Flows.{LiveFlow, in_period, with_grant}
+use Rattle.flow_book.specs.Bucket.{HaveStartedBy, StandsFor, IsSettled, most_of, HasOneMore, StaysSettled}
 use Rattle.flow_book.specs.Choice.{last_start, IsAmount, HasStartedBy}
 use Rattle.flow_book.specs.Entry.{live, IsBook, IsTurn, KeepsSums}
 use Rattle.flow_book.specs.Book.{changed}
-use Rattle.flow_book.specs.Queue.{IsIn, IsQueue, HasStartedQueue, IsFirstInTurn}
+use Rattle.flow_book.specs.Queue.{IsAt, IsIn, IsQueue, IsQueueAmong, IsQueueIn, still_waits}
+use Rattle.flow_book.specs.declared.parts.Standing.{Standing}
+use Rattle.flow_book.specs.declared.parts.Standing.TheVariants.{Queued, Served}
+use Rattle.flow_book.specs.Parts.{one_at, HasStartedIn, IsNextIn, IsPutIn}
 use Rattle.flow_book.specs.Overlay.{IsSameFlow, IsOverlay}
 use Rattle.flow_book.proofs.Amounts.{amount-of_most, most-in-bucket}
 use Rattle.flow_book.proofs.Changes.{placed-changed}
 use Rattle.flow_book.proofs.NextServed.{IsFound, found-next, served-book}
-use Rattle.flow_book.proofs.Queues.{with-one, in-new, in-old, in-rest, taken-out, among-others, same-but, put-among}
-use Rattle.flow_book.proofs.Serving.{StandsIn, stands-in}
-use Rattle.flow_book.proofs.Sums.{last-more, bytes-added}
+use Rattle.flow_book.proofs.Periods.{period-more, since-started}
+use Rattle.flow_book.proofs.Started.{started-drop}
+use Rattle.flow_book.proofs.Queues.{with-one, in-new, in-old, in-one, among-as, among-same, same-but, put-among}
+use Rattle.flow_book.proofs.Serving.{StandsIn, stands-at-place, kept-of}
+use Rattle.flow_book.proofs.StillWaiting.{all-at, none-served}
+use Rattle.flow_book.proofs.Sums.{last-more, last-started, bytes-added}
 use Rattle.flow_book.proofs.Windows.{one_more}
 
 pub same-all : (flows : List LiveFlow) → AllZip IsSameFlow flows flows
@@ -33,21 +41,22 @@ same-all (f ∷ flows) = (refl, same-all flows)
 
 -- over a book's flows nothing is granted yet
 pub over-book : (c : Config) (items : List Flow) (queue : List Waiting) → IsBook c items → IsQueue items queue
-    → IsOverlay c (map live items) (map live items) queue
+    → IsOverlay c (map live items) (map live items) queue [] 0
 over-book c items queue book order = record {
   items = items;
   shows = refl;
   book = book;
-  order = order;
+  order = none-served items queue order;
+  passed = tt;
   same = same-all (map live items);
   rest = λ place. inr refl;
 }
 
 -- the grants of an overlay have started where those of its flows have
-pub started-queue : (c : Config) (before flows : List LiveFlow) (queue : List Waiting) (start : ℕ)
-    → (o : IsOverlay c before flows queue) → AllByRecursion (HasStartedBy start) flows
-    → HasStartedQueue c o.items queue start
-started-queue c before flows queue start o started =
+pub started-queue : (c : Config) (before flows : List LiveFlow) (queue served : List Waiting) (first start : ℕ)
+    → (o : IsOverlay c before flows queue served first) → AllByRecursion (HasStartedBy start) flows
+    → HasStartedIn c o.items queue served start
+started-queue c before flows queue served first start o started =
     record { book = o.book; order = o.order; started = rw o.shows started }
 
 same-grown : (f g : LiveFlow) (grant : Grant) → IsSameFlow f g → IsSameFlow f (with_grant grant g)
@@ -64,9 +73,62 @@ same-changed sid grant (f ∷ before) (g ∷ flows) all = (
   same-changed sid grant before flows all.1,
 )
 
+-- one of the two parts has a flow
+pub one-stands : (c : Config) (items : List Flow) (queue served : List Waiting) (start : ℕ) (at : Standing)
+    (w : Waiting)
+    → HasStartedIn c items queue served start → one_at at queue served ≡ Some w → still_waits w ≡ true
+    → StandsIn c items start w
+one-stands c items queue served start (Queued i) w has here still =
+    stands-at-place c items start w has.book has.started (kept-of items queue i w here still has.order.others.each)
+one-stands c items queue served start (Served i) w has here still =
+    stands-at-place c items start w has.book has.started
+    (all-at (IsAt items) served i w has.order.served_ones.each here)
+
+-- the one that stands where the next stands is the next
+next-waiting : (c : Config) (items : List Flow) (queue served : List Waiting) (start room : ℕ) (at : Standing)
+    (w : Waiting)
+    → one_at at queue served ≡ Some w → (first : IsNextIn c items queue served start room at) → first.waiting ≡ w
+next-waiting c items queue served start room at w here first =
+    let e : Some first.waiting ≡ Some w = sym first.here ∙ here in cc
+
+-- and still waits
+pub next-waits : (c : Config) (items : List Flow) (queue served : List Waiting) (start room : ℕ) (at : Standing)
+    (w : Waiting)
+    → one_at at queue served ≡ Some w → IsNextIn c items queue served start room at → still_waits w ≡ true
+next-waits c items queue served start room at w here first =
+    subst (λ (v : Waiting). still_waits v ≡ true)
+    (next-waiting c items queue served start room at w here first) first.waits
+
+module _ (c : Config) (before flows : List LiveFlow) (queue served : List Waiting) (first start room : ℕ)
+    (at : Standing)
+    (w : Waiting) (o : IsOverlay c before flows queue served first) (started : AllByRecursion
+    (HasStartedBy start) flows)
+    (next : (items : List Flow) → HasStartedIn c items queue served start → IsNextIn c items queue served start room at)
+    (here : one_at at queue served ≡ Some w) where
+  next-stands : StandsIn c o.items start w
+  next-stands =
+      let has = started-queue c before flows queue served first start o started in
+      one-stands c o.items queue served start at w has here
+      (next-waits c o.items queue served start room at w here (next o.items has))
+
+  -- so its bucket is counted from a minislot on that is no later
+  pub next-since : w.bucket.since ≤ start
+  next-since =
+      rw (sym next-stands.bucket)
+      (since-started c next-stands.flow start next-stands.keeps next-stands.started)
+
+  -- and its turn after a grant is no earlier
+  pub next-later : (n : ℕ) → ((rank : ℕ) (last : Option ℕ) (sid : ℕ) → IsTurn rank last sid w.turn
+      → IfSome last (λ m. m ≤ start) → w.turn ≤ n) → w.turn ≤ n
+  next-later n later =
+      let f = next-stands.flow in
+      later (rank_of f.spec) (last_start f.grants.items) f.sid
+      (subst (IsTurn (rank_of f.spec) (last_start f.grants.items) f.sid) next-stands.turn next-stands.keeps.turn.1)
+      (last-started start f.grants.items next-stands.started)
+
 -- the flow that is next, the flows with its grant, and their queue
-pub record IsServed (c : Config) (items : List Flow) (queue : List Waiting) (start room index bytes : ℕ) (w new : Waiting)
-    : Type 0 where
+pub record IsServed (c : Config) (items : List Flow) (served queue_after served_after : List Waiting)
+    (start room bytes : ℕ) (w new : Waiting) : Type 0 where
   pub flow : Flow
   pub found : IsFound c items start room w.place flow
   pub amount : IsAmount c (live flow) start room bytes
@@ -74,21 +136,25 @@ pub record IsServed (c : Config) (items : List Flow) (queue : List Waiting) (sta
   pub grown : List Flow
   pub shows : map live grown ≡ changed flow.sid (with_grant (record { start = start; bytes = bytes })) (map live items)
   pub book : IsBook c grown
-  pub order : IsQueue grown (with-one new (remove queue index))
-  pub rest : (before : List LiveFlow) → ((place : ℕ) → IsIn place queue
+  pub order : IsQueueIn grown queue_after served_after
+  pub rest : (before : List LiveFlow) → ((place : ℕ) → IsIn place served
       ⊎ (slice_get (map live items) place ≡ slice_get before place)) → (place : ℕ)
-      → IsIn place (with-one new (remove queue index)) ⊎ (slice_get (map live grown) place ≡ slice_get before place)
+      → IsIn place served_after ⊎ (slice_get (map live grown) place ≡ slice_get before place)
 
-module _ (c : Config) (items : List Flow) (queue : List Waiting) (start room index bytes more : ℕ) (w new : Waiting)
-    (lawful : IsLawful c) (has : HasStartedQueue c items queue start) (lt : index < length queue)
-    (here : w ≡ get_or queue index w) (first : IsFirstInTurn c items queue start room index)
+module _ (c : Config) (items : List Flow) (queue served queue_after served_after : List Waiting)
+    (start room bytes more : ℕ) (at : Standing) (w new : Waiting) (lawful : IsLawful c)
+    (has : HasStartedIn c items queue served start) (here : one_at at queue served ≡ Some w)
+    (first : IsNextIn c items queue served start room at)
     (cap : more ≡ min (bytes_in c room) c.grant_cap) (most : bytes ≡ most_of w.bucket start (min w.wants more))
     (wants : new.wants + bytes ≡ w.wants) (same : new.place ≡ w.place)
-    (bucket : HasOneMore w.bucket new.bucket start bytes)
+    (bucket : HasOneMore w.bucket new.bucket start bytes) (settled : StaysSettled w.bucket new.bucket start bytes)
     (turn : (rank : ℕ) (last : Option ℕ) (sid : ℕ) → IsTurn rank last sid w.turn
-    → IsTurn rank (Some start) sid new.turn) where
+    → IsTurn rank (Some start) sid new.turn)
+    (put : IsPutIn items new served queue_after served_after) where
   stands : StandsIn c items start w
-  stands = stands-in c items queue start index w has lt here
+  stands =
+      one-stands c items queue served start at w has here
+      (next-waits c items queue served start room at w here first)
 
   abbrev f : Flow
   f = stands.flow
@@ -98,10 +164,9 @@ module _ (c : Config) (items : List Flow) (queue : List Waiting) (start room ind
 
   first-is : first.flow ≡ f
   first-is =
-      let e : Some first.waiting ≡ Some w = sym first.here ∙ slice_get_read queue (length queue) index w refl lt here in
-      let equal : first.waiting ≡ w = cc in
       let e' : Some first.flow ≡ Some f =
-      sym first.at ∙ ap (λ (v : Waiting). slice_get items v.place) equal ∙ stands.at in
+      sym first.stands ∙ ap (λ (v : Waiting). slice_get items v.place)
+      (next-waiting c items queue served start room at w here first) ∙ stands.at in
       cc
 
   -- the flow is the one that is next
@@ -126,6 +191,13 @@ module _ (c : Config) (items : List Flow) (queue : List Waiting) (start room ind
     grants = record f.grants { items = f.grants.items ++ one_more start bytes };
   }
 
+  more-period : in_period (live granted-flow) ≡ in_period (live f) ++ one_more start bytes
+  more-period = period-more (live f) (record { start = start; bytes = bytes }) stands.keeps.period
+
+  -- those of the present period have started
+  began : HaveStartedBy start (in_period (live f))
+  began = started-drop start f.period.earlier f.grants.items stands.started
+
   keeps : KeepsSums c granted-flow
   keeps = record {
     asks = stands.keeps.asks;
@@ -136,9 +208,16 @@ module _ (c : Config) (items : List Flow) (queue : List Waiting) (start room ind
           (turn (rank_of f.spec) (last_start f.grants.items) f.sid
           (subst (IsTurn (rank_of f.spec) (last_start f.grants.items) f.sid) stands.turn stands.keeps.turn.1)),
     );
-    bucket = bucket c (rate_of f.spec) (burst_of f.spec) f.grants.items
-        (subst (λ b. StandsFor c (rate_of f.spec) (burst_of f.spec) b f.grants.items) stands.bucket stands.keeps.bucket)
-        stands.started;
+    period = omega (
+      arith,
+      stands.keeps.period,
+      length_push f.grants.items (record { start = start; bytes = bytes }),
+    );
+    bucket = rw more-period (bucket c (rate_of f.spec) (burst_of f.spec) (in_period (live f))
+        (subst (λ b. StandsFor c (rate_of f.spec) (burst_of f.spec) b (in_period (live f))) stands.bucket
+        stands.keeps.bucket) began);
+    settled = rw more-period (settled (in_period (live f))
+        (subst (λ b. IsSettled b (in_period (live f))) stands.bucket stands.keeps.settled) began);
   }
 
   -- the flows with it
@@ -160,32 +239,64 @@ module _ (c : Config) (items : List Flow) (queue : List Waiting) (start room ind
       slice_get-get_or granted-items w.place granted-flow (omega (arith, length-set items w.place granted-flow, within))
       ∙ ap Some (get_or-set_same items w.place granted-flow granted-flow within)
 
-  -- and the queue
-  granted-queue : IsQueue granted-items (with-one new (remove queue index))
+  -- those left of those served
+  left-queue : IsQueueAmong granted-items (λ k. IsIn k put.left) put.left
+  left-queue =
+      among-same (λ k. IsIn k put.left) w.place items granted-items put.left
+      (λ k in-it equal. put.out (subst (λ n. IsIn n put.left) (equal ∙ sym same) in-it))
+      (same-but items w.place granted-flow) put.among
+
+  put-in : IsQueueAmong granted-items (λ k. IsIn k (with-one new put.left)) (with-one new put.left)
+  put-in =
+      put-among c granted-items granted-book (λ k. IsIn k put.left) (λ k. IsIn k
+      (with-one new put.left)) put.left w.place
+      granted-flow at-granted (λ k in-it. elim (in-one k new put.left in-it) [
+        | inl equal ↦ inl (equal ∙ same)
+        | inr old ↦ inr old
+      ]) (λ k in-it. in-old k new put.left in-it) left-queue new same refl
+      (omega (arith, wants, stands.wants, bytes-added f.grants.items start bytes)) refl
+      (λ in-it. put.out (subst (λ n. IsIn n put.left) (sym same) in-it))
+      (subst (λ n. IsIn n (with-one new put.left)) same (in-new new put.left))
+
+  -- and the others
+  others-queue : IsQueueAmong granted-items (λ k. IsIn k (with-one new put.left) → ⊥) (filter still_waits queue_after)
+  others-queue =
+      let Others : ℕ → Type 0 = λ k. (IsIn k put.left → ⊥) × (k ≢ new.place) in
+      among-as granted-items Others (λ k. IsIn k (with-one new put.left) → ⊥) (filter still_waits queue_after)
+      (λ k both in-it. elim (in-one k new put.left in-it) [
+        | inl equal ↦ both.1 equal
+        | inr old ↦ both.0 old
+      ])
+      (λ k out. (
+        (λ in-it. out (in-old k new put.left in-it)),
+        (λ equal. out (subst (λ n. IsIn n (with-one new put.left)) (sym equal) (in-new new put.left))),
+      ))
+      (among-same Others w.place items granted-items (filter still_waits queue_after)
+      (λ k both equal. both.1 (equal ∙ sym same)) (same-but items w.place granted-flow) put.others)
+
+  granted-queue : IsQueueIn granted-items queue_after served_after
   granted-queue =
-      let out = rw (sym here) at (taken-out items queue index w lt has.order) in
-      let others = among-others w.place items granted-items (remove queue index) (same-but items w.place granted-flow) out in
-      put-among c granted-items granted-book (λ other. other ≢ w.place) (λ other. Unit {0}) (remove queue index) w.place
-      granted-flow at-granted (λ k may. cases_eq k w.place) (λ k other. tt) others new same refl
-      (omega (arith, wants, stands.wants, bytes-added f.grants.items start bytes)) refl (λ differ. differ refl) tt
+      subst (IsQueueIn granted-items queue_after) (sym put.is) (record { served_ones = put-in; others = others-queue })
 
   -- each other flow is as it was
-  granted-rest : (before : List LiveFlow) → ((place : ℕ) → IsIn place queue
+  granted-rest : (before : List LiveFlow) → ((place : ℕ) → IsIn place served
       ⊎ (slice_get (map live items) place ≡ slice_get before place)) → (place : ℕ)
-      → IsIn place (with-one new (remove queue index)) ⊎ (slice_get (map live granted-items) place ≡ slice_get before place)
+      → IsIn place served_after ⊎ (slice_get (map live granted-items) place ≡ slice_get before place)
   granted-rest before rest place = elim (cases_eq place w.place) [
-    | inl at ↦ inl (subst (λ k. IsIn k (with-one new (remove queue index))) (same ∙ sym at)
-        (in-new new (remove queue index)))
+    | inl at-it ↦ inl (subst (IsIn place) (sym put.is)
+        (subst (λ k. IsIn k (with-one new put.left)) (same ∙ sym at-it) (in-new new put.left)))
     | inr differ ↦ elim (rest place) [
-      | inl waits ↦ inl (in-old place new (remove queue index) (in-rest place queue index w lt
-          (λ at. differ (sym at ∙ ap (λ (v : Waiting). v.place) (sym here))) waits))
+      | inl was ↦ elim (put.stay place was) [
+        | inl equal ↦ absurd (differ (equal ∙ same))
+        | inr stays ↦ inl (subst (IsIn place) (sym put.is) (in-old place new put.left stays))
+      ]
       | inr is ↦ inr (slice_get-map live granted-items place
           ∙ ap (λ o. option_map live o) (same-but items w.place granted-flow place differ)
           ∙ sym (slice_get-map live items place) ∙ is)
     ]
   ]
 
-  pub is-served : IsServed c items queue start room index bytes w new
+  pub is-served : IsServed c items served queue_after served_after start room bytes w new
   is-served = record {
     flow = f;
     found = found;

@@ -15,7 +15,7 @@ use Rattle.flow_book.specs.declared.flow.Flow.{Flow}
 use Rattle.flow_book.specs.Flows.{LiveFlow, flow_of}
 use Rattle.flow_book.specs.Entry.{live}
 use Rattle.flow_book.specs.Book.{Ascend}
-use Rattle.flow_book.proofs.Searches.{found-first}
+use Rattle.flow_book.proofs.Searches.{ascends-of, found-first}
 
 cond-option : {X Y : Type 0} (h : X → Y) (b : Bool) (x : X) (r : Option X) → cond b (Some (h x)) (option_map h r)
     ≡ option_map h (cond b (Some x) r)
@@ -152,7 +152,8 @@ pub placed-at : (items : List Flow) (i : ℕ) (f : Flow) → Ascend (map live it
 placed-at items i f up within is =
     let here : (get_or items i f).sid ≡ f.sid = ap (λ (g : Flow). g.sid) (sym is) in
     placed f.sid items i f
-    (position-map live (λ g. g.sid == f.sid) items ∙ found-first items f.sid up f i within here) is
+    (position-map live (λ g. g.sid == f.sid) items
+    ∙ found-first (λ (g : Flow). g.sid) items f.sid (ascends-of live (λ g. g.sid) items up) f i within here) is
 
 -- what holds of the flow at a place holds of the one that is read there
 pub some-here : (P : LiveFlow → Type 0) (items : List Flow) (k : ℕ) → IsSomeAnd (slice_get (map live items) k) P

@@ -1,7 +1,7 @@
 -- The queue of the flows that wait, as flows are put into it and taken out.
 use Rattle.std.proofs.Common.{◌≡◌, ◌≢◌, refl, sym, ap, ◌∙◌, subst, ℕ, zero, suc, ◌<◌, ◌==◌, ◌⊎◌, inl, inr, false}
 use Rattle.std.proofs.Common.{nat_lt, List, [], ◌∷◌, find, length, get_or, remove, slice_get}
-use Rattle.std.proofs.Common.{Option, Some, None, option_map, Bool, true, position, set, ◌≤◌, arith}
+use Rattle.std.proofs.Common.{Option, Some, None, option_map, Bool, true, cond, position, set, ◌≤◌, arith}
 use Rattle.std.specs.List.{AllByRecursion, position_or_len}
 use Rattle.std.proofs.lemmas.Grind.{common_steps}
 use Rattle.std.proofs.lemmas.List.Quantifiers.{position-Some}
@@ -46,6 +46,24 @@ in-old place w (v ∷ queue) (inr rest) =
     cond_both (nat_lt w.turn v.turn) (w ∷ v ∷ queue) (v ∷ with-one w queue) (IsIn place)
     (λ low. inr (inr rest)) (λ high. inr (in-old place w queue rest))
 
+in-one-cond : (b : Bool) (place : ℕ) (w v : Waiting) (queue : List Waiting)
+    → (IsIn place (with-one w queue) → (place ≡ w.place) ⊎ IsIn place queue)
+    → IsIn place (cond b (w ∷ v ∷ queue) (v ∷ with-one w queue)) → (place ≡ w.place) ⊎ IsIn place (v ∷ queue)
+in-one-cond true place w v queue rest (inl here) = inl (sym here)
+in-one-cond true place w v queue rest (inr old) = inr old
+in-one-cond false place w v queue rest (inl here) = inr (inl here)
+in-one-cond false place w v queue rest (inr more) = elim (rest more) [
+  | inl same ↦ inl same
+  | inr old ↦ inr (inr old)
+]
+
+-- and no others
+pub in-one : (place : ℕ) (w : Waiting) (queue : List Waiting) → IsIn place (with-one w queue)
+    → (place ≡ w.place) ⊎ IsIn place queue
+in-one place w [] (inl here) = inl (sym here)
+in-one place w [] (inr rest) = inr rest
+in-one place w (v ∷ queue) here = in-one-cond (nat_lt w.turn v.turn) place w v queue (in-one place w queue) here
+
 module _ {X : Type 0} where
   -- what holds of each holds of those that are left where one is taken out
   pub all-remove : (P : X → Type 0) (xs : List X) (i : ℕ) → AllByRecursion P xs → AllByRecursion P (remove xs i)
@@ -76,13 +94,22 @@ in-rest place (w ∷ queue) zero d lt differ (inr rest) = rest
 in-rest place (w ∷ queue) (suc i) d lt differ (inl here) = inl here
 in-rest place (w ∷ queue) (suc i) d lt differ (inr rest) = inr (in-rest place queue i d (omega arith) differ rest)
 
+-- those that are left were in the queue
+pub in-removed : (place : ℕ) (queue : List Waiting) (i : ℕ) → IsIn place (remove queue i) → IsIn place queue
+in-removed place [] zero here = here
+in-removed place [] (suc i) here = here
+in-removed place (w ∷ queue) zero here = inr here
+in-removed place (w ∷ queue) (suc i) (inl here) = inl here
+in-removed place (w ∷ queue) (suc i) (inr rest) = inr (in-removed place queue i rest)
+
 some-within : (items : List Flow) (place : ℕ) (e : ℕ × ℕ × BucketView) → option_map entry_of (slice_get items place) ≡ Some e
     → place < length items
 some-within [] place e at = absurd (cc)
 some-within (f ∷ items) zero e at = omega arith
 some-within (f ∷ items) (suc place) e at = omega (arith, some-within items place e at)
 
-same-some : (d e : ℕ × ℕ × BucketView) → Some d ≡ Some e → d ≡ e
+-- what is the same as some is the same
+pub same-some : (d e : ℕ × ℕ × BucketView) → Some d ≡ Some e → d ≡ e
 same-some d e same = cc
 
 -- where none in the queue has the place none has it
@@ -151,15 +178,36 @@ module _ (items : List Flow) where
       )
 
   -- the queue without the one at its i-th place is one of the flows at other places
-  pub taken-out : (queue : List Waiting) (i : ℕ) (d : Waiting) → i < length queue → IsQueue items queue
-      → IsQueueAmong items (λ other. other ≢ (get_or queue i d).place) (remove queue i)
-  taken-out queue i d lt is = record {
+  pub taken-among : (some : ℕ → Type 0) (queue : List Waiting) (i : ℕ) (d : Waiting) → i < length queue
+      → IsQueueAmong items some queue
+      → IsQueueAmong items (λ other. some other × (other ≢ (get_or queue i d).place)) (remove queue i)
+  taken-among some queue i d lt is = record {
     ascending = ascends-remove (λ w. w.turn) queue i is.ascending;
     each = all-remove (IsAt items) queue i is.each;
-    among = alone queue i d lt is.each is.ascending;
-    whole = λ place f found other waits. in-rest place queue i d lt (λ same. other (sym same))
-        (is.whole place f found tt waits);
+    among = all-both (λ w. some w.place) (λ w. w.place ≢ (get_or queue i d).place)
+        (λ w. some w.place × (w.place ≢ (get_or queue i d).place)) (remove queue i) (λ w here other. (here, other))
+        (all-remove (λ w. some w.place) queue i is.among) (alone queue i d lt is.each is.ascending);
+    whole = λ place f found other waits. in-rest place queue i d lt (λ same. other.1 (sym same))
+        (is.whole place f found other.0 waits);
   }
+
+  -- a queue of some flows is one of the same flows by other words
+  pub among-as : (some more : ℕ → Type 0) (queue : List Waiting) → ((k : ℕ) → some k → more k)
+      → ((k : ℕ) → more k → some k) → IsQueueAmong items some queue → IsQueueAmong items more queue
+  among-as some more queue to from is = record {
+    ascending = is.ascending;
+    each = is.each;
+    among = all-both (IsAt items) (λ w. some w.place) (λ w. more w.place) queue
+        (λ w at may. to w.place may) is.each is.among;
+    whole = λ place f found may waits. is.whole place f found (from place may) waits;
+  }
+
+  -- and so of the flows at other places
+  pub taken-out : (queue : List Waiting) (i : ℕ) (d : Waiting) → i < length queue → IsQueue items queue
+      → IsQueueAmong items (λ other. other ≢ (get_or queue i d).place) (remove queue i)
+  taken-out queue i d lt is =
+      among-as (λ other. Unit {0} × (other ≢ (get_or queue i d).place)) (λ other. other ≢ (get_or queue i d).place)
+      (remove queue i) (λ k both. both.1) (λ k other. (tt, other)) (taken-among (λ other. Unit {0}) queue i d lt is)
 
   -- and so is the queue itself where it has no such place
   pub none-out : (queue : List Waiting) (place : ℕ) → AllByRecursion (λ w. w.place ≢ place) queue → IsQueue items queue
@@ -180,16 +228,22 @@ module _ (items : List Flow) where
       let e : (get_or queue i d).place ≡ place = grind (arith, nat_tests) in
       rw (sym e) (taken-out queue i d found.0 is)
 
--- what is known of the flows at other places stays
+-- what is known of some flows at other places stays
+pub among-same : (some : ℕ → Type 0) (place : ℕ) (old new : List Flow) (queue : List Waiting)
+    → ((k : ℕ) → some k → k ≢ place) → AreSameBut place old new → IsQueueAmong old some queue
+    → IsQueueAmong new some queue
+among-same some place old new queue others same is = record {
+  ascending = is.ascending;
+  each = all-both (IsAt old) (λ w. some w.place) (IsAt new) queue
+      (λ w at may. ap (option_map entry_of) (same w.place (others w.place may)) ∙ at) is.each is.among;
+  among = is.among;
+  whole = λ other f found may waits. is.whole other f (sym (same other (others other may)) ∙ found) may waits;
+}
+
+-- and of all of them
 pub among-others : (place : ℕ) (old new : List Flow) (queue : List Waiting) → AreSameBut place old new
     → IsQueueAmong old (λ other. other ≢ place) queue → IsQueueAmong new (λ other. other ≢ place) queue
-among-others place old new queue same is = record {
-  ascending = is.ascending;
-  each = all-both (IsAt old) (λ w. w.place ≢ place) (IsAt new) queue
-      (λ w at other. ap (option_map entry_of) (same w.place other) ∙ at) is.each is.among;
-  among = is.among;
-  whole = λ other f found differ waits. is.whole other f (sym (same other differ) ∙ found) differ waits;
-}
+among-others place old new queue = among-same (λ other. other ≢ place) place old new queue (λ k other. other)
 
 -- the flows are the same at each place but where another is put
 pub same-but : (items : List Flow) (place : ℕ) (e : Flow) → AreSameBut place items (set items place e)
@@ -238,12 +292,12 @@ module _ (c : Config) (items : List Flow) (are : IsBook c items) where
       let mine = ap (λ (h : Flow). h.sid) is in
       let yours = ap (λ (h : Flow). h.sid) is' in
       elim (cases_lt i j) [
-        | inl less ↦ absurd (omega (arith, below items f.sid are.sound.ascending f i j less q, mine, yours, sids))
+        | inl less ↦ absurd (omega (arith, below items are.sound.ascending f i j less q, mine, yours, sids))
         | inr more ↦ elim (cases_eq i j) [
           | inl equal ↦ equal
           | inr differ ↦ absurd (omega (
             arith,
-            below items f.sid are.sound.ascending f j i (omega arith) p,
+            below items are.sound.ascending f j i (omega arith) p,
             mine,
             yours,
             sids,

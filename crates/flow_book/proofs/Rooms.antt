@@ -1,13 +1,12 @@
 -- The room of flows for grants.
 use Rattle.std.proofs.Common.{◌≡◌, ◌≢◌, refl, sym, ap, ◌∙◌, ℕ, zero, suc, ◌+◌, ◌<◌, ◌≤◌, Bool, true, false, cond}
-use Rattle.std.proofs.Common.{◌==◌, List, [], ◌∷◌, ◌++◌, map, find, length, get_or, set, take, Option, Some, None}
+use Rattle.std.proofs.Common.{◌==◌, List, [], ◌∷◌, map, find, length, get_or, set, Option, Some, None}
 use Rattle.std.proofs.Common.{IsSome, option_map, Result, Ok, Err, OnOk, inl, inr, arith, get_or-set_other}
 use Rattle.std.proofs.Common.{get_or-set_same}
 use Rattle.std.specs.List.{AllByRecursion}
 use Rattle.std.proofs.lemmas.Bool.{cases_eq}
 use Rattle.std.proofs.lemmas.Bool.Decides.{nat_tests}
 use Rattle.std.proofs.lemmas.List.Folds.{find-set, find_past}
-use Rattle.std.proofs.Math.Seq.{take-append_seam}
 use Rattle.flow_book.specs.declared.flow.Flow.{Flow}
 use Rattle.flow_book.specs.Entry.{live, room_in}
 use Rattle.flow_book.specs.Book.{IsLive, Room, KeepsRoom, room_of}
@@ -60,10 +59,6 @@ room-live flows n all sid found =
     rw (find-map room_in (λ r. r.sid == sid) flows)
     (room-option n (find (λ f. f.sid == sid) flows) (λ f is. all-found (λ g. n ≤ (room_in g).grants)
     (λ g. g.sid == sid) flows f (all-index flows n all) is) (rw (flow_of-live sid flows) at found))
-
--- all of a list was written back
-pub written-back : (n : ℕ) (new rest : List Flow) → n ≡ length new → take n (new ++ rest) ≡ new
-written-back n new rest len = rw len (take-append_seam new rest)
 
 -- what follows from the answer in the case that all went well
 pub on-ok : {T E P Q : Type 0} (r : Result T E) → (P → Q) → OnOk r P → OnOk r Q

@@ -1,11 +1,13 @@
 -- The first in the queue that may be served is the flow that is served first.
-use Rattle.std.proofs.Common.{◌≡◌, refl, sym, ap, ◌∙◌, ℕ, suc, ◌<◌, ◌≤◌, min, true, nat_eq, IsTrue, ◌↔◌}
+use Rattle.std.proofs.Common.{◌≡◌, refl, sym, ap, ◌∙◌, ℕ, suc, ◌<◌, ◌≤◌, min, true, nat_eq, IsTrue, ◌↔◌, filter}
 use Rattle.std.proofs.Common.{◌⊎◌, inl, inr, Contains}
-use Rattle.std.proofs.Common.{List, [], ◌∷◌, ◌++◌, map, slice_get, Some, Bool, length, get_or, ◌==◌, arith}
-use Rattle.std.proofs.lemmas.Bool.{eq-eqb}
+use Rattle.std.proofs.Common.{List, [], ◌∷◌, ◌++◌, map, slice_get, Option, Some, None, subst, Bool, length, get_or}
+use Rattle.std.proofs.Common.{◌==◌, arith}
+use Rattle.std.proofs.lemmas.Bool.{cases_eq, eq-eqb}
 use Rattle.std.proofs.lemmas.Bool.Decides.{nat_tests}
 use Rattle.std.proofs.lemmas.List.Elements.{All-from_recursion}
 use Rattle.std.specs.List.{AllByRecursion}
+use Rattle.std.specs.Option.{MatchOption}
 use Rattle.std.proofs.lemmas.Option.{slice_get_within, get_or_from_slice_get}
 use Rattle.std.proofs.Math.ListN.{get_or-map}
 use Rattle.std.proofs.lemmas.List.{length-map}
@@ -22,11 +24,16 @@ use Rattle.flow_book.specs.Choice.{last_start, is_before, IsEligible, IsNext, No
 use Rattle.flow_book.specs.Entry.{live, IsBook, KeepsSums, KnowsTurn}
 use Rattle.flow_book.specs.Bucket.{HaveStartedBy, most_of}
 use Rattle.flow_book.specs.Sids.{AscendBy}
-use Rattle.flow_book.specs.Queue.{IsAt, IsIn, IsQueue, HasStartedQueue}
+use Rattle.flow_book.specs.Queue.{IsAt, IsIn, IsPassed, IsNoEarlier, IsQueueIn, HasStartedQueue, HasStartedPart}
+use Rattle.flow_book.specs.Queue.{IsFirstAble}
+use Rattle.flow_book.specs.Queue.{IsFirstInTurn, still_waits}
 use Rattle.flow_book.proofs.Amounts.{eligible-is, bucket-within}
 use Rattle.flow_book.proofs.Turns.{less-first}
 use Rattle.flow_book.proofs.Steps.{all-item}
-use Rattle.flow_book.proofs.Queues.{all-both, at-within, flow-at, turn-at, wants-at, bucket-at, knows-at}
+use Rattle.flow_book.proofs.Queues.{all-both, at-within, flow-at, turn-at, wants-at, bucket-at, knows-at, one-place}
+use Rattle.flow_book.proofs.StillWaiting.{in-or-out, stays-in, kept-at, filter-split, none-served, all-joined}
+use Rattle.flow_book.proofs.Order.{all-implied}
+use Rattle.flow_book.proofs.Removal.{all-filter}
 
 -- what holds of the flow at each place holds of each
 all-places : (P : LiveFlow → Type 0) (items : List Flow)
@@ -41,31 +48,23 @@ contains-at items k f found =
     (k, omega arith, get_or-map live items k f ∙ ap live (get_or_from_slice_get items k f f found))
 
 -- of a place in the queue what holds of each there holds
-pick : (P : Waiting → Type 0) (place : ℕ) (queue : List Waiting) → IsIn place queue → AllByRecursion P queue
+pub pick : (P : Waiting → Type 0) (place : ℕ) (queue : List Waiting) → IsIn place queue → AllByRecursion P queue
     → (w : Waiting) × (w.place ≡ place) × P w
 pick P place [] here all = absurd here
 pick P place (w ∷ queue) (inl here) all = (w, here, all.0)
 pick P place (w ∷ queue) (inr rest) all = pick P place queue rest all.1
 
-all-back : {X : Type 0} (P : X → Type 0) (front : List X) (w : X) (back : List X)
-    → AllByRecursion P (front ++ w ∷ back) → AllByRecursion P back
-all-back P [] w back all = all.1
-all-back P (x ∷ front) w back all = all-back P front w back all.1
-
-all-here : {X : Type 0} (P : X → Type 0) (front : List X) (w : X) (back : List X)
+-- what holds of each holds of one of them
+pub all-here : {X : Type 0} (P : X → Type 0) (front : List X) (w : X) (back : List X)
     → AllByRecursion P (front ++ w ∷ back) → P w
 all-here P [] w back all = all.0
 all-here P (x ∷ front) w back all = all-here P front w back all.1
 
-above-back : (front : List Waiting) (w : Waiting) (back : List Waiting) → AscendBy (λ v. v.turn) (front ++ w ∷ back)
+-- those behind a member have later turns
+pub above-back : (front : List Waiting) (w : Waiting) (back : List Waiting) → AscendBy (λ v. v.turn) (front ++ w ∷ back)
     → AllByRecursion (λ v. w.turn < v.turn) back
 above-back [] w back up = up.0
 above-back (x ∷ front) w back up = above-back front w back up.1
-
--- the flow of this one may not be served
-abbrev pub IsPassed : Config → ℕ → ℕ → List Flow → Waiting → Type 0
-IsPassed c start room items w =
-    (f : Flow) → slice_get items w.place ≡ Some f → IsEligible c start room (live f) → ⊥
 
 turns-before : (f g : Flow) → KnowsTurn f → KnowsTurn g → f.turn < g.turn → is_before (live f) (live g) ≡ true
 turns-before f g mine yours less =
@@ -113,11 +112,10 @@ pub record StandsIn (c : Config) (items : List Flow) (start : ℕ) (w : Waiting)
   pub wants : outstanding (live flow) ≡ w.wants
   pub bucket : flow.bucket ≡ w.bucket
 
--- an entry of the queue has a flow
-pub stands-in : (c : Config) (items : List Flow) (queue : List Waiting) (start i : ℕ) (w : Waiting)
-    → HasStartedQueue c items queue start → i < length queue → w ≡ get_or queue i w → StandsIn c items start w
-stands-in c items queue start i w is lt here =
-    let at : IsAt items w = rw here (All-from_recursion (IsAt items) queue is.order.each i w lt) in
+-- one that stands at its place has a flow
+pub stands-at-place : (c : Config) (items : List Flow) (start : ℕ) (w : Waiting) → IsBook c items
+    → AllByRecursion (HasStartedBy start) (map live items) → IsAt items w → StandsIn c items start w
+stands-at-place c items start w book began at =
     let found = flow-at items w (slice_get items w.place) refl at in
     let f = found.0 in
     let within = at-within items w at in
@@ -125,12 +123,22 @@ stands-in c items queue start i w is lt here =
     record {
       flow = f;
       at = found.1;
-      keeps = rw read (All-from_recursion (KeepsSums c) items is.book.sums w.place f within);
-      started = all-item live items w.place f within read (HasStartedBy start) is.started;
+      keeps = rw read (All-from_recursion (KeepsSums c) items book.sums w.place f within);
+      started = all-item live items w.place f within read (HasStartedBy start) began;
       turn = turn-at items w f at found.1;
       wants = wants-at items w f at found.1;
       bucket = bucket-at items w f at found.1;
     }
+
+-- an entry that still waits has a flow
+pub stands-in : (c : Config) (items : List Flow) (queue : List Waiting) (start i : ℕ) (w : Waiting)
+    → HasStartedPart c items queue start → i < length queue → w ≡ get_or queue i w → 0 < w.wants → StandsIn c items
+    start w
+stands-in c items queue start i w is lt here waits =
+    let still : still_waits w ≡ true = grind (arith, nat_tests) in
+    let at : IsAt items w = rw here (kept-at (IsAt items) still_waits queue i w lt (ap still_waits
+    (sym here) ∙ still) is.each) in
+    stands-at-place c items start w is.book is.started at
 
 equal : (m n : ℕ) → (m == n) ≡ true → m ≡ n
 equal m n same = grind (arith, nat_tests)
@@ -150,50 +158,116 @@ entry-may c start room items w wanted may lawful is limits some fits tested =
       (λ p. tested ∙ eq-eqb (most_of w.bucket start wanted) wanted (sym most ∙ p.2)),
     )
 
-module _ (c : Config) (start room : ℕ) (items : List Flow) (are : IsBook c items) where
-  -- a place in the queue that may be served is not passed
-  behind : (k : ℕ) (g : Flow) (front : List Waiting) (w : Waiting) (back : List Waiting) → slice_get items k ≡ Some g
-      → IsEligible c start room (live g) → AllByRecursion (IsPassed c start room items) front
-      → IsIn k (front ++ w ∷ back)
-      → (w.place ≡ k) ⊎ IsIn k back
-  behind k g [] w back found may passed (inl here) = inl here
-  behind k g [] w back found may passed (inr rest) = inr rest
-  behind k g (v ∷ front) w back found may passed (inl here) =
-      absurd (passed.0 g (ap (slice_get items) here ∙ found) may)
-  behind k g (v ∷ front) w back found may passed (inr rest) = behind k g front w back found may passed.1 rest
+-- one of a list that still waits stands at its place where those that do stand there
+pub kept-of : (items : List Flow) (queue : List Waiting) (i : ℕ) (w : Waiting) → slice_get queue i ≡ Some w
+    → still_waits w ≡ true → AllByRecursion (IsAt items) (filter still_waits queue) → IsAt items w
+kept-of items queue i w here still all =
+    let within = slice_get_within queue i w here in
+    let is : get_or queue i w ≡ w = get_or_from_slice_get queue i w w here in
+    subst (IsAt items) is (kept-at (IsAt items) still_waits queue i w within (ap still_waits is ∙ still) all)
 
-  -- behind flows that may not be served one that may is served first
-  pub first-next : (front : List Waiting) (w : Waiting) (back : List Waiting) (f : Flow)
-      → slice_get items w.place ≡ Some f → IsQueue items (front ++ w ∷ back)
-      → AllByRecursion (IsPassed c start room items) front
-      → IsEligible c start room (live f) → IsNext c (map live items) start room (live f)
-  first-next front w back f here is passed may = record {
-    live = contains-at items w.place f here;
-    eligible = may;
-    first = all-places (λ g. IsEligible c start room g → (g ≡ live f) ⊎ (is_before (live f) g ≡ true)) items
-        (λ k g found may'. elim (behind k g front w back found may' passed (is.whole k g found tt may'.waits)) [
-          | inl same ↦
-              (let e : Some g ≡ Some f = sym found ∙ ap (slice_get items) (sym same) ∙ here in
-              let equal : g ≡ f = cc in
-              inl (ap live equal))
-          | inr rest ↦
-              (let both =
-              all-both (IsAt items) (λ v. w.turn < v.turn) (λ v. IsAt items v × (w.turn < v.turn)) back
-              (λ v p q. (p, q))
-              (all-back (IsAt items) front w back is.each) (above-back front w back is.ascending) in
-              let v = pick (λ v. IsAt items v × (w.turn < v.turn)) k back rest both in
-              let mine = turn-at items w f (all-here (IsAt items) front w back is.each) here in
-              let yours = turn-at items v.0 g v.2.0 (ap (slice_get items) v.1 ∙ found) in
-              inr (turns-before f g (knows-at c items are w.place f here) (knows-at c items are k g found)
-              (omega (arith, v.2.1, mine, yours))))
-        ]);
-  }
+module _ (c : Config) (start room : ℕ) (items : List Flow) where
+  -- behind those that may not be served each is no earlier than the next one
+  pub late-behind : (front : List Waiting) (w : Waiting) (back queue : List Waiting) → queue ≡ front ++ w ∷ back
+      → still_waits w ≡ true → AscendBy (λ v. v.turn) (filter still_waits queue)
+      → AllByRecursion (IsPassed c start room items) (filter still_waits front)
+      → AllByRecursion (IsNoEarlier c start room items w.turn) (filter still_waits queue)
+  late-behind front w back queue split still up passed =
+      let P = IsNoEarlier c start room items w.turn in
+      let is : filter still_waits queue ≡ filter still_waits front ++ w ∷ filter still_waits back =
+      ap (filter still_waits) split ∙ filter-split still_waits front w back still in
+      let later = above-back (filter still_waits front) w (filter still_waits back) (rw is at up) in
+      rw is (all-joined P (filter still_waits front) (w ∷ filter still_waits back)
+      (all-implied (IsPassed c start room items) P (filter still_waits front) (λ v p. inl p) passed) (
+        inr (omega arith),
+        all-implied (λ v. w.turn < v.turn) P (filter still_waits back) (λ v lt. inr
+            (omega arith)) later,
+      ))
 
-  -- and where all are passed none may be served
-  pub none-next : (queue : List Waiting) → IsQueue items queue → AllByRecursion (IsPassed c start room items) queue
+module _ (c : Config) (start room : ℕ) (items : List Flow) (are : IsBook c items) (queue served : List Waiting)
+    (is : IsQueueIn items queue served) where
+  -- of those that still wait in the two parts what holds of each holds of one at the place of each flow that waits
+  one-of : (P : Waiting → Type 0) (k : ℕ) (g : Flow) → slice_get items k ≡ Some g → 0 < outstanding (live g)
+      → AllByRecursion P (filter still_waits queue) → AllByRecursion P (filter still_waits served)
+      → (v : Waiting) × (v.place ≡ k) × P v
+  one-of P k g found waits all all' = elim (in-or-out k served) [
+    | inl here ↦ pick P k (filter still_waits served)
+        (stays-in items served k g found waits is.served_ones.each here) all'
+    | inr out ↦ pick P k (filter still_waits queue) (is.others.whole k g found out waits) all
+  ]
+
+  -- one that may be served is served first where each that may be served is no earlier
+  pub first-next : (w : Waiting) (f : Flow) → slice_get items w.place ≡ Some f → IsAt items w
+      → IsEligible c start room (live f)
+      → AllByRecursion (IsNoEarlier c start room items w.turn) (filter still_waits queue)
+      → AllByRecursion (IsNoEarlier c start room items w.turn) (filter still_waits served)
+      → IsNext c (map live items) start room (live f)
+  first-next w f here at may all all' =
+      let P : Waiting → Type 0 = λ v. IsAt items v × IsNoEarlier c start room items w.turn v in
+      let both = all-both (IsAt items) (IsNoEarlier c start room items w.turn) P (filter still_waits queue)
+      (λ v p q. (p, q)) is.others.each all in
+      let both' = all-both (IsAt items) (IsNoEarlier c start room items w.turn) P (filter still_waits served)
+      (λ v p q. (p, q)) (all-filter (IsAt items) still_waits served is.served_ones.each) all' in
+      record {
+        live = contains-at items w.place f here;
+        eligible = may;
+        first = all-places (λ g. IsEligible c start room g → (g ≡ live f) ⊎ (is_before (live f) g ≡ true)) items
+            (λ k g found may'.
+            let v = one-of P k g found may'.waits both both' in
+            let there : slice_get items v.0.place ≡ Some g = ap (slice_get items) v.1 ∙ found in
+            elim v.2.1 [
+              | inl passed ↦ absurd (passed g there may')
+              | inr late ↦ (
+                  let mine = turn-at items w f at here in
+                  let yours = turn-at items v.0 g v.2.0 there in
+                  elim (cases_eq f.turn g.turn) [
+                    | inl same ↦ (
+                        let place = one-place c items are w.place k f g here found same in
+                        let e : Some g ≡ Some f = sym found ∙ ap (slice_get items) (sym place) ∙ here in
+                        let equal : g ≡ f = cc in
+                        inl (ap live equal))
+                    | inr differ ↦ inr (turns-before f g (knows-at c items are w.place f here)
+                        (knows-at c items are k g found) (omega (arith, late, mine, yours, differ)))
+                  ])
+            ]);
+      }
+
+  -- and where none of them may be served none may
+  pub none-next : AllByRecursion (IsPassed c start room items) (filter still_waits queue)
+      → AllByRecursion (IsPassed c start room items) (filter still_waits served)
       → NoneEligible c (map live items) start room
-  none-next queue is passed =
+  none-next all all' =
       all-places (λ g. IsEligible c start room g → ⊥) items
       (λ k g found may.
-      let v = pick (IsPassed c start room items) k queue (is.whole k g found tt may.waits) passed in
+      let v = one-of (IsPassed c start room items) k g found may.waits all all' in
       v.2 g (ap (slice_get items) v.1 ∙ found) may)
+
+-- the queue of a book is a part
+pub whole-part : (c : Config) (items : List Flow) (queue : List Waiting) (start : ℕ)
+    → HasStartedQueue c items queue start
+    → HasStartedPart c items queue start
+whole-part c items queue start has =
+    let is = none-served items queue has.order in
+    record { book = has.book; ascending = is.others.ascending; each = is.others.each; started = has.started }
+
+-- which has the first that may be served where the part has it
+pub whole-next : (c : Config) (items : List Flow) (queue : List Waiting) (start room : ℕ)
+    → HasStartedQueue c items queue start → (found : Option ℕ)
+    → MatchOption found (AllByRecursion (IsPassed c start room items) (filter still_waits queue))
+    (IsFirstAble c items queue start room)
+    → MatchOption found (NoneEligible c (map live items) start room) (IsFirstInTurn c items queue start room)
+whole-next c items queue start room has None passed =
+    none-next c start room items has.book queue [] (none-served items queue has.order) passed tt
+whole-next c items queue start room has (Some index) is =
+    let part = whole-part c items queue start has in
+    let within = slice_get_within queue index is.waiting is.here in
+    let at = kept-of items queue index is.waiting is.here is.waits part.each in
+    record {
+      waiting = is.waiting;
+      here = is.here;
+      flow = is.flow;
+      at = is.at;
+      next = first-next c start room items has.book queue []
+          (none-served items queue has.order) is.waiting is.flow is.at
+          at is.may is.first tt;
+    }

@@ -202,7 +202,7 @@ filter-remove sid (f ∷ items) zero d up lt here =
     rw same (filter-above sid items (subst (λ n. AllByRecursion (λ (g : LiveFlow). n < g.sid) (map live items)) here
     up.0))
 filter-remove sid (f ∷ items) (suc i) d up lt here =
-    let less : f.sid < (get_or items i d).sid = below (f ∷ items) sid up d 0 (suc i) (omega arith) lt in
+    let less : f.sid < (get_or items i d).sid = below (f ∷ items) up d 0 (suc i) (omega arith) lt in
     let differ : (f.sid == sid) ≡ false = grind (arith, nat_tests) in
     rw differ (ap (λ fs. f ∷ fs) (filter-remove sid items i d up.1 (omega arith) here))
 

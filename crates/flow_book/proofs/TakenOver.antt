@@ -1,11 +1,9 @@
 -- The flows of a book that takes in the data grants of a MAP, one by one.
 use Rattle.std.proofs.Common.{◌≡◌, refl, sym, ap, ◌∙◌, subst, ℕ, zero, suc, ◌+◌, ◌-◌, ◌<◌, ◌≤◌, ◌⊎◌, inl, inr}
-use Rattle.std.proofs.Common.{Bool, true, List, [], ◌∷◌, ◌++◌, map, filter, length, take, get_or, set, slice_get}
+use Rattle.std.proofs.Common.{List, [], ◌∷◌, ◌++◌, map, length, take, get_or, set, slice_get}
 use Rattle.std.proofs.Common.{Some, option_map, arith}
 use Rattle.std.specs.List.{AllByRecursion, AllZip}
 use Rattle.std.specs.Option.{option_map_or}
-use Rattle.std.proofs.lemmas.Bool.{cond_both, cases_eq}
-use Rattle.std.proofs.lemmas.Bool.Decides.{nat_tests}
 use Rattle.std.proofs.lemmas.List.{length-map, length-set, get_or-set_same, take_more}
 use Rattle.std.proofs.lemmas.List.Elements.{All-from_recursion, length_all_zip}
 use Rattle.std.proofs.lemmas.Option.{slice_get_within, slice_get-get_or, slice_get_read, slice_get-map}
@@ -14,29 +12,19 @@ use Rattle.flow_book.specs.declared.flow.Flow.{Flow}
 use Rattle.flow_book.specs.declared.flow.Grant.{Grant}
 use Rattle.flow_book.specs.declared.granted.GrantList.{GrantList}
 use Rattle.flow_book.specs.declared.queue.Waiting.{Waiting}
-use Rattle.flow_book.specs.Flows.{LiveFlow, outstanding}
+use Rattle.flow_book.specs.Flows.{LiveFlow}
 use Rattle.flow_book.specs.FlowList.{grants_at}
 use Rattle.flow_book.specs.Entry.{live, IsCopy, IsSoundFlow, KeepsSums}
 use Rattle.flow_book.specs.Sids.{AscendBy}
-use Rattle.flow_book.specs.Queue.{entry_of, IsAt, IsIn}
+use Rattle.flow_book.specs.Queue.{IsAt, IsIn}
 use Rattle.flow_book.specs.Overlay.{IsSameFlow}
-use Rattle.flow_book.specs.Pending.{still_waits}
 use Rattle.flow_book.specs.Taking.{CanBeTaken, IsTaken}
-use Rattle.flow_book.proofs.Queues.{at-within, flow-at, entry-at, turn-at, wants-at, bucket-at, same-turn, same-but}
+use Rattle.flow_book.proofs.Queues.{at-within, flow-at, turn-at, wants-at, bucket-at, same-turn, same-but}
+use Rattle.flow_book.proofs.StillWaiting.{in-or-out, all-at}
 use Rattle.flow_book.proofs.Sums.{copy-sums}
 
--- a place in the queue, or not
-in-or-out : (place : ℕ) (queue : List Waiting) → IsIn place queue ⊎ (IsIn place queue → ⊥)
-in-or-out place [] = inr (λ here. here)
-in-or-out place (w ∷ queue) = elim (cases_eq w.place place) [
-  | inl same ↦ inl (inl same)
-  | inr differ ↦ elim (in-or-out place queue) [
-    | inl rest ↦ inl (inr rest)
-    | inr out ↦ inr (λ here. elim here [ inl same ↦ differ same | inr rest ↦ out rest ])
-  ]
-]
-
-in-either : (place : ℕ) (front : List Waiting) (w : Waiting) → IsIn place (front ++ w ∷ [])
+-- one of a list with one more is in the list or is that one
+pub in-either : (place : ℕ) (front : List Waiting) (w : Waiting) → IsIn place (front ++ w ∷ [])
     → IsIn place front ⊎ (w.place ≡ place)
 in-either place [] w (inl here) = inr here
 in-either place [] w (inr rest) = absurd rest
@@ -46,41 +34,23 @@ in-either place (v ∷ front) w (inr rest) = elim (in-either place front w rest)
   | inr last ↦ inr last
 ]
 
-in-front : (place : ℕ) (front back : List Waiting) → IsIn place front → IsIn place (front ++ back)
+-- one of a list is in the list with others behind it
+pub in-front : (place : ℕ) (front back : List Waiting) → IsIn place front → IsIn place (front ++ back)
 in-front place [] back here = absurd here
 in-front place (v ∷ front) back (inl here) = inl here
 in-front place (v ∷ front) back (inr rest) = inr (in-front place front back rest)
 
-in-last : (front : List Waiting) (w : Waiting) → IsIn w.place (front ++ w ∷ [])
+-- and so is the one behind it
+pub in-last : (front : List Waiting) (w : Waiting) → IsIn w.place (front ++ w ∷ [])
 in-last [] w = inl refl
 in-last (v ∷ front) w = inr (in-last front w)
 
 module _ {X : Type 0} where
-  -- what holds of each holds of the one at a place
-  all-at : (P : X → Type 0) (xs : List X) (k : ℕ) (x : X) → AllByRecursion P xs → slice_get xs k ≡ Some x → P x
-  all-at P [] k x all found = absurd (cc)
-  all-at P (y ∷ xs) zero x all found = let e : Some y ≡ Some x = found in let same : y ≡ x = cc in subst P same all.0
-  all-at P (y ∷ xs) (suc k) x all found = all-at P xs k x all.1 found
-
   -- what holds of the one at each place holds of each
   all-each : (P : X → Type 0) (xs : List X) → ((k : ℕ) (x : X) → slice_get xs k ≡ Some x → P x)
       → AllByRecursion P xs
   all-each P [] each = tt
   all-each P (x ∷ xs) each = (each 0 x refl, all-each P xs (λ k. each (suc k)))
-
-  -- what holds of each holds of those that pass
-  all-filter : (P : X → Type 0) (p : X → Bool) (xs : List X) → AllByRecursion P xs → AllByRecursion P (filter p xs)
-  all-filter P p [] all = tt
-  all-filter P p (x ∷ xs) all =
-      let rest = all-filter P p xs all.1 in
-      cond_both (p x) (x ∷ filter p xs) (filter p xs) (AllByRecursion P) (λ pass. (all.0, rest)) (λ fail. rest)
-
-  ascends-filter : (number : X → ℕ) (p : X → Bool) (xs : List X) → AscendBy number xs → AscendBy number (filter p xs)
-  ascends-filter number p [] up = tt
-  ascends-filter number p (x ∷ xs) up =
-      let rest = ascends-filter number p xs up.1 in
-      cond_both (p x) (x ∷ filter p xs) (filter p xs) (AscendBy number)
-      (λ pass. (all-filter (λ y. number x < number y) p xs up.0, rest)) (λ fail. rest)
 
 -- at one place the flows are the same but for their grants
 zip-at : (old items : List Flow) (place : ℕ) (f g : Flow) → AllZip IsSameFlow (map live old) (map live items)
@@ -107,16 +77,9 @@ same-shown (f ∷ new) (g ∷ items) long each =
     ap (λ h. h ∷ map live new) (each 0 f g refl refl)
     ∙ ap (λ hs. live g ∷ hs) (same-shown new items (omega arith) (λ k. each (suc k)))
 
--- a copy has the same entry
-copy-entry : (f g : Flow) → IsCopy g f → entry_of f ≡ entry_of g
-copy-entry f g is =
-    let wants : outstanding (live f) ≡ outstanding (live g) = ap outstanding is.same in
-    ap (λ n. (n, outstanding (live f), f.bucket)) is.turn ∙ ap (λ n. (g.turn, n, f.bucket)) wants
-    ∙ ap (λ b. (g.turn, outstanding (live g), b)) is.bucket
-
 module _ (items : List Flow) where
   -- none of those before it in the queue is at its place
-  fresh : (queue : List Waiting) (i : ℕ) (d : Waiting) → i < length queue → AllByRecursion (IsAt items) queue
+  pub fresh : (queue : List Waiting) (i : ℕ) (d : Waiting) → i < length queue → AllByRecursion (IsAt items) queue
       → AscendBy (λ w. w.turn) queue → IsIn (get_or queue i d).place (take i queue) → ⊥
   fresh [] i d lt all up here = absurd (omega arith)
   fresh (w ∷ queue) zero d lt all up here = here
@@ -126,20 +89,6 @@ module _ (items : List Flow) where
       All-from_recursion (λ v. w.turn < v.turn) queue up.0 i d (omega arith) in
       absurd (omega (arith, above, same-turn items w (get_or queue i d) all.0 at same))
   fresh (w ∷ queue) (suc i) d lt all up (inr rest) = fresh queue i d (omega arith) all.1 up.1 rest
-
-  -- where a flow still waits its place stays in the queue
-  stays-in : (queue : List Waiting) (place : ℕ) (g : Flow) → slice_get items place ≡ Some g
-      → 0 < outstanding (live g) → AllByRecursion (IsAt items) queue → IsIn place queue
-      → IsIn place (filter still_waits queue)
-  stays-in [] place g found waits all here = absurd here
-  stays-in (w ∷ queue) place g found waits all (inl same) =
-      let wants = wants-at items w g all.0 (ap (slice_get items) same ∙ found) in
-      let still : still_waits w ≡ true = grind (arith, nat_tests) in
-      rw still (inl same)
-  stays-in (w ∷ queue) place g found waits all (inr rest) =
-      let stays = stays-in queue place g found waits all.1 rest in
-      cond_both (still_waits w) (w ∷ filter still_waits queue) (filter still_waits queue) (IsIn place)
-      (λ pass. inr stays) (λ fail. stays)
 
 -- The flows at the places that are done are copies of those after the MAP, the others are those before it
 pub record IsPart (old items : List Flow) (done : List Waiting) (new : List Flow) : Type 0 where
@@ -298,21 +247,8 @@ module _ (c : Config) (old items : List Flow) (queue : List Waiting) (can : CanB
           (omega (arith, as-many, slice_get_within new place f found)),
     )
 
-    each-at : (ws : List Waiting) → ((place : ℕ) → IsIn place ws → IsIn place queue) → AllByRecursion (IsAt items) ws
-        → AllByRecursion (IsAt new) ws
-    each-at [] inside all = tt
-    each-at (w ∷ ws) inside all =
-        let g = flow-at items w (slice_get items w.place) refl all.0 in
-        let f : Flow = get_or new w.place g.0 in
-        let found : slice_get new w.place ≡ Some f =
-        slice_get-get_or new w.place g.0 (omega (arith, as-many, at-within items w all.0)) in
-        let copy = part.there w.place f g.0 (inside w.place (inl refl)) found g.1 in (
-          ap (option_map entry_of) found ∙ ap Some (copy-entry f g.0 copy ∙ entry-at items w g.0 all.0 g.1),
-          each-at ws (λ place rest. inside place (inr rest)) all.1,
-        )
-
     -- then the book has taken them in
-    pub is-taken : IsTaken c new items queue
+    pub is-taken : IsTaken c new items
     is-taken =
         let shows : map live new ≡ map live items =
         same-shown new items (omega (arith, as-many)) (λ k f g found at. (shown-at k f g found at).0) in
@@ -322,14 +258,5 @@ module _ (c : Config) (old items : List Flow) (queue : List Waiting) (can : CanB
             sound = rw shows can.book.sound;
             sums = all-each (KeepsSums c) new
                 (λ k f found. let g = after-at k f found in (shown-at k f g.0 found g.1).1);
-          };
-          order = record {
-            ascending = ascends-filter (λ w. w.turn) still_waits queue can.order.ascending;
-            each = all-filter (IsAt new) still_waits queue (each-at queue (λ place here. here) can.order.each);
-            among = all-filter (λ w. Unit {0}) still_waits queue can.order.among;
-            whole = λ place f found any waits.
-                let g = after-at place f found in
-                let some = subst (λ (h : LiveFlow). 0 < outstanding h) (shown-at place f g.0 found g.1).0 waits in
-                stays-in items queue place g.0 g.1 some can.order.each (can.order.whole place g.0 g.1 tt some);
           };
         }

@@ -63,6 +63,18 @@ HasOneMore old new slot bytes = (c : Config) (rate burst : ℕ) (grants : List G
     → StandsFor c rate burst old grants → HaveStartedBy slot grants
     → StandsFor c rate burst new (grants ++ record { start = slot; bytes = bytes } ∷ [])
 
+-- The grants of a bucket decide what it keeps: at most what the burst allows, and where there is a ceiling the least
+-- minislot by which they have started
+pub record IsSettled (b : BucketView) (grants : List Grant) : Type 0 where
+  pub level : b.level ≤ b.full
+  pub started : 0 < b.per_slot → HaveStartedBy b.since grants
+  pub first : b.per_slot ≡ 0 → b.since ≡ 0
+
+-- where the one bucket is settled by some grants that have started, the other is by them and this one more
+abbrev pub StaysSettled : BucketView → BucketView → ℕ → ℕ → Type 0
+StaysSettled old new slot bytes = (grants : List Grant) → IsSettled old grants → HaveStartedBy slot grants
+    → IsSettled new (grants ++ record { start = slot; bytes = bytes } ∷ [])
+
 -- the most bytes, up to a limit, that the bucket has at a minislot
 abbrev pub most_of : BucketView → ℕ → ℕ → ℕ
 most_of b slot limit = if b.per_slot == 0 then limit else min limit (level_of b slot / 1280000)

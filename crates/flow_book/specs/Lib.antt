@@ -4,6 +4,7 @@ pub use Rattle.sched_calls.specs.FlowSpec
 pub mod Batches
 pub mod Flows
 pub mod Granted
+pub mod Lending
 pub mod FlowList
 pub mod Ceiling
 pub mod Bucket
@@ -12,8 +13,10 @@ pub mod Choice
 pub mod Book
 pub mod Entry
 pub mod Overlay
+pub mod Parts
 pub mod Queue
 pub mod Shown
 pub mod Pending
 pub mod Taking
 pub mod Line
+pub mod Marks

@@ -1,5 +1,6 @@
 -- The numbers of the flows that wait in line, put in order one by one.
-use Rattle.std.specs.Prelude.{ℕ, ◌/◌, ◌^◌, min, Bool, true, nat_lt, List, [], ◌∷◌, map, filter, Option, None, Some}
+use Rattle.std.specs.Prelude.{ℕ, ◌/◌, ◌^◌, ◌≤◌, min, Bool, true, nat_lt, List, [], ◌∷◌, map, filter, Option, None, Some}
+use Rattle.std.specs.List.{AllByRecursion}
 use Rattle.flow_book.specs.declared.shown.Hidden.{Hidden}
 use Rattle.flow_book.specs.Flows.{LiveFlow}
 use Rattle.flow_book.specs.Sids.{put_in}
@@ -21,6 +22,11 @@ sorted_into line (n ∷ ns) = sorted_into (put_in itself n line) ns
 -- the numbers in order
 abbrev pub sorted : List ℕ → List ℕ
 sorted ns = sorted_into [] ns
+
+-- none stands before a lesser one
+abbrev pub IsInOrder : List ℕ → Type 0
+IsInOrder [] = Unit {0}
+IsInOrder (n ∷ ns) = AllByRecursion (λ m. n ≤ m) ns × IsInOrder ns
 
 -- a flow comes before the first that is hidden, where one is
 abbrev pub comes_first : Option Hidden → LiveFlow → Bool

@@ -1,47 +1,44 @@
--- The flows that wait after a MAP, as they are kept while its pending grants are written.
-use Rattle.std.specs.Prelude.{◌≡◌, ℕ, ◌-◌, ◌%◌, ◌^◌, ◌<◌, Bool, true, nat_lt, List, None, Some, Option, unwrap_or}
-use Rattle.std.specs.Prelude.{option_map, slice_get, filter, map}
-use Rattle.std.specs.List.{AllByRecursion, AllZip}
+-- The flows that wait after a MAP, as they stand in the two parts of a queue.
+use Rattle.std.specs.Prelude.{◌≡◌, ℕ, ◌-◌, ◌%◌, ◌^◌, ◌<◌, Bool, false, ◌&&◌, ◌||◌, ◌==◌, nat_lt, List, [], ◌∷◌, ◌++◌}
+use Rattle.std.specs.Prelude.{None, Some, Option, unwrap_or, option_map, slice_get, filter, map}
+use Rattle.std.specs.List.{AllByRecursion}
 use Rattle.flow_book.specs.declared.flow.Flow.{Flow}
 use Rattle.flow_book.specs.declared.queue.Waiting.{Waiting}
 use Rattle.flow_book.specs.declared.shown.Hidden.{Hidden}
-use Rattle.flow_book.specs.declared.shown.Pending.{Pending}
 use Rattle.flow_book.specs.Batches.{since_of}
 use Rattle.flow_book.specs.Flows.{LiveFlow, outstanding}
 use Rattle.flow_book.specs.Book.{Ascend}
-use Rattle.flow_book.specs.Shown.{waits, number_of}
-use Rattle.flow_book.specs.Line.{numbers_of}
+use Rattle.flow_book.specs.Queue.{still_waits}
+use Rattle.flow_book.specs.Shown.{number_of}
+use Rattle.flow_book.specs.Line.{sorted, numbers_of}
 
--- one of the queue waits for bytes
-abbrev pub still_waits : Waiting → Bool
-still_waits w = nat_lt 0 w.wants
-
--- what is kept of it: its turn ends with its SID
-abbrev pub pending_of : Waiting → Pending
-pending_of w = record { sid = w.turn % 2 ^ 16; place = w.place; wants = w.wants }
-
--- what is kept of a flow
-pub record IsPendingOf (flows : List LiveFlow) (f : LiveFlow) (p : Pending) : Type 0 where
-  pub at : slice_get flows p.place ≡ Some f
-  pub sid : p.sid ≡ f.sid
-  pub wants : p.wants ≡ outstanding f
-
--- these are kept of the flows that wait, in order of SID
-abbrev pub ArePending : List LiveFlow → List Pending → Type 0
-ArePending flows pending = AllZip (IsPendingOf flows) (filter waits flows) pending
+-- those of the two parts that still wait
+abbrev pub waiting_in : List Waiting → List Waiting → List Waiting
+waiting_in queue served = filter still_waits queue ++ filter still_waits served
 
 -- the number in line of one that waits, by the flow at its place
-abbrev pub number_at : List Flow → Pending → ℕ
-number_at flows p =
-    unwrap_or (option_map (λ f. number_of (since_of f.batches (f.asked - p.wants)) p.sid) (slice_get flows p.place)) 0
+abbrev pub number_at : List Flow → Waiting → ℕ
+number_at flows w =
+    unwrap_or (option_map (λ f. number_of (since_of f.batches (f.asked - w.wants)) f.sid) (slice_get flows w.place)) 0
 
--- the numbers in line of these are those of flows in order of SID
-pub record AreInLine (flows : List Flow) (pending : List Pending) (after : List LiveFlow) : Type 0 where
+-- one is that of a flow: its place is the flow's, its turn ends with the SID, and it waits for its bytes
+pub record IsWaitingOf (flows : List LiveFlow) (f : LiveFlow) (w : Waiting) : Type 0 where
+  pub at : slice_get flows w.place ≡ Some f
+  pub sid : w.turn % 2 ^ 16 ≡ f.sid
+  pub wants : w.wants ≡ outstanding f
+
+-- the numbers in line of these are in order those of the flows that wait
+pub record AreInLine (flows : List Flow) (ws : List Waiting) (after : List LiveFlow) : Type 0 where
   pub ascending : Ascend after
   pub small : AllByRecursion (λ f. f.sid < 2 ^ 16) after
-  pub numbers : map (number_at flows) pending ≡ numbers_of after
+  pub numbers : sorted (map (number_at flows) ws) ≡ sorted (numbers_of after)
 
--- one that waits comes before the first that is hidden, where one is
-abbrev pub is_ahead : List Flow → Option Hidden → Pending → Bool
-is_ahead flows None p = true
-is_ahead flows (Some hidden) p = nat_lt (number_at flows p) hidden.number
+-- one still waits, and comes before the first that is hidden, where one is
+abbrev pub is_ahead : List Flow → Option Hidden → Waiting → Bool
+is_ahead flows None w = still_waits w
+is_ahead flows (Some hidden) w = still_waits w && nat_lt (number_at flows w) hidden.number
+
+-- one of these has the place
+abbrev pub has_place : ℕ → List Waiting → Bool
+has_place place [] = false
+has_place place (w ∷ ws) = w.place == place || has_place place ws

@@ -1,13 +1,13 @@
 -- The flows that wait for bytes, in the order in which they are served.
 use Rattle.std.specs.Prelude.{◌≡◌, ◌≢◌, ℕ, ◌<◌, ◌⊎◌, Bool, true, List, [], ◌∷◌, Some, option_map, slice_get, map}
-use Rattle.std.specs.Prelude.{◌+◌, ◌-◌, nat_le, nat_lt, if◌then◌else◌}
+use Rattle.std.specs.Prelude.{◌+◌, ◌-◌, ◌≤◌, nat_le, nat_lt, filter, take, if◌then◌else◌}
 use Rattle.std.specs.List.{AllByRecursion}
 use Rattle.minislots.specs.declared.config.Config.{Config}
 use Rattle.flow_book.specs.declared.flow.Flow.{Flow}
 use Rattle.flow_book.specs.declared.queue.Waiting.{Waiting}
 use Rattle.flow_book.specs.Flows.{outstanding}
 use Rattle.flow_book.specs.Bucket.{BucketView}
-use Rattle.flow_book.specs.Choice.{HasStartedBy, IsNext}
+use Rattle.flow_book.specs.Choice.{HasStartedBy, IsEligible, IsNext}
 use Rattle.flow_book.specs.Entry.{live, IsBook}
 use Rattle.flow_book.specs.Sids.{AscendBy, put_in}
 
@@ -36,6 +36,16 @@ pub record IsQueueAmong (items : List Flow) (some : ℕ → Type 0) (queue : Lis
 abbrev pub IsQueue : List Flow → List Waiting → Type 0
 IsQueue items queue = IsQueueAmong items (λ place. Unit {0}) queue
 
+-- one of the queue waits for bytes
+abbrev pub still_waits : Waiting → Bool
+still_waits w = nat_lt 0 w.wants
+
+-- All that wait are in one of the two parts, each by their turns: those that a MAP served, and those of the queue
+-- that still wait and were not served
+pub record IsQueueIn (items : List Flow) (queue served : List Waiting) : Type 0 where
+  pub served_ones : IsQueueAmong items (λ place. IsIn place served) served
+  pub others : IsQueueAmong items (λ place. IsIn place served → ⊥) (filter still_waits queue)
+
 -- One was moved to its turn among those of the other places
 pub record IsMoved (items : List Flow) (w : Waiting) (queue : List Waiting) : Type 0 where
   pub others : List Waiting
@@ -55,6 +65,37 @@ pub record IsFirstInTurn (c : Config) (items : List Flow) (queue : List Waiting)
   pub flow : Flow
   pub at : slice_get items waiting.place ≡ Some flow
   pub next : IsNext c (map live items) start room (live flow)
+
+-- none before this place in the queue wants anything
+abbrev pub NoneWaitsBefore : ℕ → List Waiting → Type 0
+NoneWaitsBefore first queue = AllByRecursion (λ w. w.wants ≡ 0) (take first queue)
+
+-- The flows are a book's, those of a list that still wait are of its flows, by their turns, and all grants have started
+-- by this minislot
+pub record HasStartedPart (c : Config) (items : List Flow) (queue : List Waiting) (start : ℕ) : Type 0 where
+  pub book : IsBook c items
+  pub ascending : AscendBy (λ w. w.turn) (filter still_waits queue)
+  pub each : AllByRecursion (IsAt items) (filter still_waits queue)
+  pub started : AllByRecursion (HasStartedBy start) (map live items)
+
+-- its flow may not be served
+abbrev pub IsPassed : Config → ℕ → ℕ → List Flow → Waiting → Type 0
+IsPassed c start room items w =
+    (f : Flow) → slice_get items w.place ≡ Some f → IsEligible c start room (live f) → ⊥
+
+-- its flow may not be served, or its turn is no earlier than this one
+abbrev pub IsNoEarlier : Config → ℕ → ℕ → List Flow → ℕ → Waiting → Type 0
+IsNoEarlier c start room items turn w = IsPassed c start room items w ⊎ (turn ≤ w.turn)
+
+-- one of a list that still waits and may be served stands here, and each that may be served is no earlier
+pub record IsFirstAble (c : Config) (items : List Flow) (queue : List Waiting) (start room index : ℕ) : Type 0 where
+  pub waiting : Waiting
+  pub here : slice_get queue index ≡ Some waiting
+  pub waits : still_waits waiting ≡ true
+  pub flow : Flow
+  pub at : slice_get items waiting.place ≡ Some flow
+  pub may : IsEligible c start room (live flow)
+  pub first : AllByRecursion (IsNoEarlier c start room items waiting.turn) (filter still_waits queue)
 
 -- its place is one more where a flow was put in at this place or before it
 abbrev pub moved_up : ℕ → Waiting → Waiting

@@ -5,16 +5,17 @@ ghost use Rattle.std.specs.Prelude.{IsSomeAnd, MatchOption, map, filter, option_
 ghost use Rattle.std.specs.List.{AllByRecursion, position_or_len};
 ghost use Rattle.minislots.specs.Units.{slots_for};
 ghost use Rattle.sched_calls.specs.FlowSpec.{takes_requests};
-ghost use Rattle.flow_book.specs.Flows.{flow_of, outstanding, with_grant};
+ghost use Rattle.flow_book.specs.Flows.{flow_of, granted, outstanding, with_grant};
 ghost use Rattle.flow_book.specs.Choice.{MayGrant, IsMost, IsAmount, IsNext, IsNextSid, NoneEligible};
 ghost use Rattle.flow_book.specs.Choice.{HasStartedBy};
 ghost use Rattle.flow_book.specs.Entry.{live, IsSoundFlow, IsBook, IsRoom, KeepsSums};
 ghost use Rattle.flow_book.specs.Queue.{IsQueue};
 ghost use Rattle.flow_book.specs.Shown.{is_shown, ack_of};
 ghost use Rattle.flow_book.specs.Book.{IsLive, Ascend, KeepsRoom, room_of, new_flow, with_flow, without, changed};
-ghost use Rattle.flow_book.specs.Book.{with_asked};
+ghost use Rattle.flow_book.specs.Book.{with_asked, with_replaced, with_spec};
 
 use crate::flow::{Flow, Room, first_eligible, reserve_each};
+use crate::flows::Flows;
 use crate::overlay::Overlay;
 use crate::queue::{Waiting, copy_of, first_in_turn, follow, leave, make_room, make_way, queue_of};
 use crate::shown::Shown;
@@ -28,7 +29,7 @@ use std::marker::Model;
 #[derive(Drop)]
 pub struct Book {
     config: Checked,
-    flows: Vec<Flow>,
+    flows: Flows,
     // The flows that wait, by their turns, where they are known.
     queue: Vec<Waiting>,
     is_queued: bool,
@@ -45,28 +46,20 @@ impl Model for Book {
 
     ghost view = { λ b. record {
       config = b.config;
-      flows = map live b.flows.items;
-      rooms = map room_in b.flows.items;
+      flows = map live b.flows;
+      rooms = map room_in b.flows;
     } };
 
-    ghost invariant = { λ b. IsQueuedBook b.config b.flows.items b.queue.items b.is_queued };
-}
-
-// The place of the flow with this SID.
-fn place_in(flows: &[Flow], sid: u16) -> Option<usize>
-    requires { Ascend (map live flows.now) }
-    ensures { result ≡ position (λ f. f.sid == sid) flows.now }
-{
-    flows.binary_search_by_key(&sid, |flow| flow.sid).ok()
+    ghost invariant = { λ b. IsQueuedBook b.config b.flows b.queue.items b.is_queued };
 }
 
 // The place of the live flow with this SID.
-fn place_of(flows: &[Flow], sid: u16) -> usize
+fn place_of(flows: &Flows, sid: u16) -> usize
     requires ascending { Ascend (map live flows.now) }
     requires live { IsLive sid (map live flows.now) }
     ensures { position (λ f. f.sid == sid) (map live flows.now) ≡ Some result }
 {
-    match place_in(flows, sid) {
+    match flows.place_of(sid) {
         Some(place) => place,
         None => unreachable!(),
     }
@@ -76,7 +69,7 @@ fn place_of(flows: &[Flow], sid: u16) -> usize
 fn next_place(
     queue: &[Waiting],
     is_queued: bool,
-    flows: &[Flow],
+    flows: &Flows,
     config: &Checked,
     start: u64,
     room: Room,
@@ -99,15 +92,6 @@ fn next_place(
     }
 }
 
-// The place of the first flow with a higher SID, or the end.
-fn place_above(flows: &[Flow], sid: u16) -> usize
-    requires { Ascend (map live flows.now) }
-    ensures place { result ≡ position_or_len (λ f. nat_lt sid f.sid) flows.now }
-    ensures within { result ≤ length flows.now }
-{
-    flows.partition_point(|flow| flow.sid <= sid)
-}
-
 impl Book {
     /// A book for this channel, without flows.
     pub fn open(alloc: Global, config: Checked) -> Result<Book, AllocError>
@@ -116,7 +100,7 @@ impl Book {
     {
         Ok(Book {
             config,
-            flows: Vec::new(alloc),
+            flows: Flows::new(alloc),
             queue: Vec::new(alloc),
             is_queued: true,
         })
@@ -150,15 +134,15 @@ impl Book {
         ensures value { option_map (λ f. f.sid) (slice_get self.now.flows index) ≡ Some result }
         ensures found { flow_of result self.now.flows ≡ slice_get self.now.flows index }
     {
-        self.flows[index].sid
+        self.flows.at(index).sid
     }
 
     /// The parameters of the live flow with this SID, if there is one.
     pub fn flow(&self, sid: u16) -> Option<FlowSpec>
         ensures { result ≡ option_map (λ f. f.spec) (flow_of sid self.now.flows) }
     {
-        match place_in(&self.flows, sid) {
-            Some(place) => Some(self.flows[place].spec),
+        match self.flows.place_of(sid) {
+            Some(place) => Some(self.flows.at(place).spec),
             None => None,
         }
     }
@@ -196,7 +180,7 @@ impl Book {
         requires { index < length self.now.flows }
         ensures { option_map outstanding (slice_get self.now.flows index) ≡ Some result }
     {
-        self.flows[index].outstanding()
+        self.flows.at(index).outstanding()
     }
 
     /// Adds a flow that has asked and been granted nothing. No flow has its SID. Where memory runs out
@@ -208,7 +192,7 @@ impl Book {
         ensures config { self.new.config ≡ self.old.config }
         ensures room { KeepsRoom self.old.rooms self.new.rooms }
     {
-        let place = place_above(&self.flows, sid);
+        let place = self.flows.place_above(sid);
         let flow = Flow::open(&self.config, sid, spec);
         make_room(&mut self.queue, self.flows.len())?;
         self.flows.insert(place, flow)?;
@@ -225,7 +209,7 @@ impl Book {
             → other ≢ sid → room_of other self.new.rooms ≡ room_of other self.old.rooms }
     {
         let place = self.place(sid);
-        let _ = self.flows.remove(place);
+        self.flows.remove(place);
         leave(&mut self.queue, place);
     }
 
@@ -239,7 +223,34 @@ impl Book {
             { flows = changed sid (with_asked bytes heard) self.old.flows } }
     {
         let place = self.place(sid);
-        self.flows[place].ask(bytes, heard);
+        self.flows.at_mut(place).ask(bytes, heard);
+        self.is_queued = follow(&mut self.queue, self.is_queued, &self.flows, place);
+    }
+
+    /// Leaves so many bytes outstanding of a live flow that takes requests, in the place of those before, by a request
+    /// that was heard at minislot `heard`. They and the bytes granted fit a `u64`.
+    pub fn replace(&mut self, sid: u16, bytes: u32, heard: u64)
+        requires live { IsLive sid self.old.flows }
+        requires fits { IfSome (flow_of sid self.old.flows) (λ f. granted f + bytes < 2 ^ 64) }
+        requires asks { IfSome (flow_of sid self.old.flows) (λ f. takes_requests f.spec ≡ true) }
+        ensures { self.new ≡ record self.old
+            { flows = changed sid (with_replaced bytes heard) self.old.flows } }
+    {
+        let place = self.place(sid);
+        self.flows.at_mut(place).replace(bytes, heard);
+        self.is_queued = follow(&mut self.queue, self.is_queued, &self.flows, place);
+    }
+
+    /// Gives a live flow other parameters, of its kind. What it asked and was granted stays. Another rate or burst
+    /// begins a period of its ceiling, full.
+    pub fn change(&mut self, sid: u16, spec: FlowSpec)
+        requires live { IsLive sid self.old.flows }
+        requires kind { IfSome (flow_of sid self.old.flows)
+            (λ f. takes_requests spec ≡ takes_requests f.spec) }
+        ensures { self.new ≡ record self.old { flows = changed sid (with_spec spec) self.old.flows } }
+    {
+        let place = self.place(sid);
+        self.flows.at_mut(place).change(&self.config, spec);
         self.is_queued = follow(&mut self.queue, self.is_queued, &self.flows, place);
     }
 
@@ -283,7 +294,7 @@ impl Book {
     {
         reserve_each(&mut self.flows, grants);
         if !self.is_queued {
-            self.queue = queue_of(*self.flows.allocator(), &self.flows)?;
+            self.queue = queue_of(self.flows.allocator(), &self.flows)?;
             self.is_queued = true;
         }
         Ok(())
@@ -305,7 +316,7 @@ impl Book {
             → other ≢ sid → room_of other self.new.rooms ≡ room_of other self.old.rooms }
     {
         let place = self.place(sid);
-        self.flows[place].grant(start, bytes);
+        self.flows.at_mut(place).grant(start, bytes);
         self.is_queued = follow(&mut self.queue, self.is_queued, &self.flows, place);
     }
 
@@ -320,9 +331,9 @@ impl Book {
         let queue = if self.is_queued {
             copy_of(&self.queue)?
         } else {
-            queue_of(*self.flows.allocator(), &self.flows)?
+            queue_of(self.flows.allocator(), &self.flows)?
         };
-        Ok(Overlay::over(self.config, &self.flows, queue))
+        Overlay::over(self.config, &self.flows, queue)
     }
 
     /// The flows that the MAP of an overlay shows by pending grants, in order of SID, and its acknowledge time, where all
@@ -330,7 +341,7 @@ impl Book {
     /// not changed since.
     pub fn show(&self, overlay: &Overlay, progress: u64) -> Result<Shown, AllocError>
         requires { overlay.now.before ≡ self.now.flows }
-        ensures pending { IfOk result (λ s. map (λ p. p.sid) s.pending.items ≡ map (λ f. f.sid)
+        ensures pending { IfOk result (λ s. s.pending.items ≡ map (λ f. f.sid)
             (filter (is_shown overlay.now.config.pending overlay.now.flows) overlay.now.flows)) }
         ensures ack { IfOk result
             (λ s. s.ack ≡ ack_of overlay.now.config.pending progress overlay.now.flows) }
@@ -356,7 +367,7 @@ impl Book {
         ensures sound { IsSoundFlow self.now.config (live result.now) }
         ensures sums { KeepsSums self.now.config result.now }
     {
-        &self.flows[self.place(sid)]
+        self.flows.at(self.place(sid))
     }
 
     // The place of the live flow with this SID.

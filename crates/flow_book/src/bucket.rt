@@ -2,6 +2,7 @@
 
 ghost use Rattle.std.specs.Prelude.{◌≡◌, ◌*◌, ◌/◌, ◌<◌, ◌≤◌, ◌^◌, ◌==◌, [], IsTrue, false, min};
 ghost use Rattle.flow_book.specs.Bucket.{level_of, most_of, StandsFor, AnswersLevel, AnswersCeiling, HasOneMore};
+ghost use Rattle.flow_book.specs.Bucket.{IsSettled, StaysSettled};
 
 use minislots::Checked;
 use std::marker::Model;
@@ -45,6 +46,7 @@ impl Bucket {
     /// A full bucket for this channel: `rate` in bits per second, `burst` in bytes. It stands for no grants.
     pub fn open(config: &Checked, rate: u32, burst: u32) -> Bucket
         ensures empty { StandsFor config.now rate burst result [] }
+        ensures settled { IsSettled result [] }
         ensures since { result.since ≡ 0 }
     {
         let burst = if rate == 0 { 0 } else { burst };
@@ -97,6 +99,7 @@ impl Bucket {
         requires { self.old.since ≤ slot }
         ensures exact { AnswersCeiling self.old slot bytes result }
         ensures taken { IsTrue result → HasOneMore self.old self.new slot bytes }
+        ensures settled { IsTrue result → StaysSettled self.old self.new slot bytes }
         ensures same { result ≡ false → self.new ≡ self.old }
         ensures since { self.new.since ≤ slot }
     {
@@ -119,6 +122,7 @@ impl Bucket {
         requires { self.old.since ≤ slot }
         ensures most { result ≡ most_of self.old slot limit }
         ensures taken { HasOneMore self.old self.new slot result }
+        ensures settled { StaysSettled self.old self.new slot result }
         ensures since { self.new.since ≤ slot }
     {
         if self.per_slot == 0 {

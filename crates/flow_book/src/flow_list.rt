@@ -8,6 +8,7 @@ ghost use Rattle.flow_book.specs.Entry.{live};
 ghost use Rattle.flow_book.specs.FlowList.{flows_code, grants_at};
 
 use crate::flow::{Flow, Grant};
+use crate::flows::Flows;
 use crate::granted::GrantList;
 use std::marker::Model;
 
@@ -62,12 +63,12 @@ impl FlowList {
 }
 
 // The flows of a book.
-pub(crate) fn list_of(flows: &[Flow]) -> FlowList
+pub(crate) fn list_of(flows: &Flows) -> FlowList
     ensures { result.items ≡ map live flows.now }
 {
     let mut list = FlowList::none();
-    for flow in flows {
-        list = FlowList::and(&list, flow);
+    for place in 0..flows.len() {
+        list = FlowList::and(&list, flows.at(place));
     }
     list
 }

@@ -1,6 +1,6 @@
 //! The flows of a book with the data grants of a MAP that is planned.
 
-ghost use Rattle.std.specs.Prelude.{◌≡◌, map, filter, IfOk, IfSome, None, option_map, true};
+ghost use Rattle.std.specs.Prelude.{◌≡◌, Some, map, filter, IfOk, OnErr, IfSome, None, option_map, true};
 ghost use Rattle.std.specs.List.{AllByRecursion};
 ghost use Rattle.flow_book.specs.Flows.{flow_of, with_grant};
 ghost use Rattle.flow_book.specs.Choice.{IsAmount, IsNextSid, HasStartedBy};
@@ -9,22 +9,31 @@ ghost use Rattle.flow_book.specs.Queue.{IsQueue};
 ghost use Rattle.flow_book.specs.Shown.{is_shown, ack_of};
 ghost use Rattle.flow_book.specs.Book.{changed};
 
-use crate::flow::{Flow, Grant, Room, Served};
+use crate::flow::{Grant, Room, Served};
 use crate::flow_list::{FlowList, list_of};
-use crate::queue::{Waiting, first_in_turn, move_back};
+use crate::flows::Flows;
+use crate::parts::{first_of, first_waiting, one_at, put_served};
+use crate::queue::Waiting;
 use crate::shown::{Shown, show};
-use crate::taking::{put_back, take_over};
+use crate::taking::{merge, take_over};
 use minislots::Checked;
 use std::alloc::AllocError;
 use std::marker::Model;
 
+// The flows for which a MAP takes memory at once where it serves so many: hardly any serves more.
+const SERVED: usize = 93;
+
 /// The live flows of a book with the data grants of a MAP that is planned. The book stays as it is until
-/// [`Book::take_in`](crate::Book::take_in). Memory is taken for the flows that wait alone.
+/// [`Book::take_in`](crate::Book::take_in). Memory is taken for the flows that wait, and for those that it serves.
 #[derive(Drop)]
 pub struct Overlay {
     config: Checked,
-    // The flows that waited before the MAP, by their turns.
+    // The flows that waited before the MAP, by their turns: one that it served wants nothing here.
     queue: Vec<Waiting>,
+    // None before this place wants anything.
+    first: usize,
+    // Those that the MAP served, with what they still want, by their turns.
+    served: Vec<Waiting>,
     // The live flows before the MAP, and with its data grants, for contracts alone.
     before: FlowList,
     flows: FlowList,
@@ -43,27 +52,35 @@ impl Model for Overlay {
       flows = o.flows.items;
     } };
 
-    ghost invariant = { λ o. IsOverlay o.config o.before.items o.flows.items o.queue.items };
+    ghost invariant = { λ o.
+        IsOverlay o.config o.before.items o.flows.items o.queue.items o.served.items o.first };
 }
 
 impl Overlay {
     // That of a book with these flows and this queue, before any grant.
-    pub(crate) fn over(config: Checked, flows: &[Flow], queue: Vec<Waiting>) -> Overlay
+    pub(crate) fn over(
+        config: Checked,
+        flows: &Flows,
+        queue: Vec<Waiting>,
+    ) -> Result<Overlay, AllocError>
         requires book { IsBook config flows.now }
         requires queue { IsQueue flows.now queue.items }
-        ensures { result ≡ record {
+        ensures { IfOk result (λ overlay. overlay ≡ record {
           config = config;
           before = map live flows.now;
           flows = map live flows.now;
-        } }
+        }) }
     {
+        let served = Vec::with_capacity(*queue.allocator(), queue.len().min(SERVED))?;
         let before = list_of(flows);
-        Overlay {
+        Ok(Overlay {
             config,
             queue,
+            first: 0,
+            served,
             flows: FlowList::same(&before),
             before,
-        }
+        })
     }
 
     /// The channel's configuration.
@@ -76,51 +93,64 @@ impl Overlay {
     /// Grants the flow that is next at minislot `start`, with `room` minislots before what comes next
     /// ([`Book::eligible`](crate::Book::eligible)), the most bytes that it may have there
     /// ([`Book::most`](crate::Book::most)), and answers to whom they went. `None` where no flow may be served: then
-    /// nothing changes. All grants start at or before `start`.
-    pub fn serve(&mut self, start: u64, room: u32) -> Option<Served>
+    /// nothing changes. All grants start at or before `start`. Where memory runs out nothing changes either.
+    pub fn serve(&mut self, start: u64, room: u32) -> Result<Option<Served>, AllocError>
         requires started { AllByRecursion (HasStartedBy start) self.old.flows }
 
-        ensures next { IsNextSid self.old.config start room self.old.flows
-            (option_map (λ s. s.sid) result) }
-        ensures amount { IfSome result (λ s. IfSome (flow_of s.sid self.old.flows)
-            (λ f. IsAmount self.old.config f start room s.bytes)) }
-        ensures flows { IfSome result (λ s. self.new.flows ≡ changed s.sid
-            (with_grant (record { start = start; bytes = s.bytes })) self.old.flows) }
-        ensures none { result ≡ None → self.new ≡ self.old }
+        ensures next { IfOk result (λ served. IsNextSid self.old.config start room self.old.flows
+            (option_map (λ s. s.sid) served)) }
+        ensures amount { IfOk result (λ served. IfSome served (λ s. IfSome (flow_of s.sid self.old.flows)
+            (λ f. IsAmount self.old.config f start room s.bytes))) }
+        ensures flows { IfOk result (λ served. IfSome served (λ s. self.new.flows ≡ changed s.sid
+            (with_grant (record { start = start; bytes = s.bytes })) self.old.flows)) }
+        ensures none { IfOk result (λ served. served ≡ None → self.new ≡ self.old) }
+        ensures err { OnErr result (self.new ≡ self.old) }
         ensures config { self.new.config ≡ self.old.config }
         ensures before { self.new.before ≡ self.old.before }
     {
         let bytes = self.config.most_in(room);
         let room = Room { slots: room, bytes };
-        let index = first_in_turn(&self.queue, &self.config, start, room)?;
-        let mut waiting = self.queue[index];
+        let config = &self.config;
+        let found = first_of(&self.queue, self.first, &self.served, config, start, room);
+        let Some(standing) = found else {
+            return Ok(None);
+        };
+        let mut waiting = one_at(&self.queue, &self.served, standing);
         let bytes = waiting.serve(start, room.bytes);
-        move_back(&mut self.queue, index, waiting);
+        put_served(&mut self.queue, &mut self.served, standing, waiting)?;
+        self.first = first_waiting(&self.queue, self.first);
         let sid = waiting.sid();
         self.flows = FlowList::granted(&self.flows, &sid, &Grant { start, bytes });
-        Some(Served { sid, bytes })
+        Ok(Some(Served { sid, bytes }))
     }
 
     // The flows that the MAP shows by pending grants, in order of SID, and its acknowledge time ([`Book::show`]). These
     // are the flows of the book.
-    pub(crate) fn show(&self, flows: &[Flow], progress: u64) -> Result<Shown, AllocError>
+    pub(crate) fn show(&self, flows: &Flows, progress: u64) -> Result<Shown, AllocError>
         requires { map live flows.now ≡ self.now.before }
-        ensures pending { IfOk result (λ s. map (λ p. p.sid) s.pending.items
+        ensures pending { IfOk result (λ s. s.pending.items
             ≡ map (λ f. f.sid) (filter (is_shown self.now.config.pending self.now.flows) self.now.flows)) }
         ensures ack { IfOk result (λ s. s.ack ≡ ack_of self.now.config.pending progress self.now.flows) }
     {
         let most = self.config.pending() as usize;
-        show(*self.queue.allocator(), &self.queue, flows, most, progress)
+        show(
+            *self.queue.allocator(),
+            &self.queue,
+            &self.served,
+            flows,
+            most,
+            progress,
+        )
     }
 
     // Puts the flows with the data grants in the place of those before, and the queue of those that still wait in the
     // place of another; answers whether that is whole (memory may run out).
-    pub(crate) fn put_into(self, flows: &mut [Flow], queue: &mut Vec<Waiting>) -> bool
+    pub(crate) fn put_into(self, flows: &mut Flows, queue: &mut Vec<Waiting>) -> bool
         requires { IsBook self.config flows.old × (map live flows.old ≡ self.before) }
         ensures book { IsBook self.config flows.new × (map live flows.new ≡ self.flows) }
         ensures order { result ≡ true → IsQueue flows.new queue.new.items }
     {
-        take_over(flows, &self.queue, &self.flows);
-        put_back(queue, &self.queue).is_ok()
+        take_over(flows, &self.served, &self.flows);
+        merge(queue, &self.queue, &self.served).is_ok()
     }
 }

@@ -1,22 +1,24 @@
 //! The flows that wait for bytes, in the order in which they are served.
 
 ghost use Rattle.std.specs.Prelude.{◌==◌, nat_lt, position, true, false, ◌+◌, ◌^◌, insert};
-ghost use Rattle.std.specs.Prelude.{ℕ, ◌≡◌, ◌≢◌, ◌<◌, ◌≤◌, List, remove, slice_index_or, map, length, OnOk, IfOk};
-ghost use Rattle.std.specs.Prelude.{IfSome, MatchOption, Option, Some, min};
+ghost use Rattle.std.specs.Prelude.{ℕ, ◌≡◌, ◌≢◌, ◌<◌, ◌≤◌, List, remove, slice_index_or, map, length, OnOk, OnErr, IfOk};
+ghost use Rattle.std.specs.Prelude.{IfSome, MatchOption, Option, Some, min, filter};
 ghost use Rattle.std.specs.List.{AllByRecursion, position_or_len};
 ghost use Rattle.minislots.specs.declared.config.Config.{Config};
 ghost use Rattle.minislots.specs.Config.{IsLawful};
 ghost use Rattle.flow_book.specs.declared.flow.Flow.{Flow};
 ghost use Rattle.flow_book.specs.Flows.{granted, outstanding};
 ghost use Rattle.flow_book.specs.Choice.{NoneEligible};
-ghost use Rattle.flow_book.specs.Bucket.{most_of, HasOneMore};
+ghost use Rattle.flow_book.specs.Bucket.{most_of, HasOneMore, StaysSettled};
 ghost use Rattle.flow_book.specs.Entry.{live, IsBook, IsRoom, IsTurn};
 ghost use Rattle.flow_book.specs.Sids.{AscendBy, put_in};
 ghost use Rattle.flow_book.specs.Queue.{IsQueue, IsQueueAmong, IsMoved, AreSameBut, moved_up, moved_down};
-ghost use Rattle.flow_book.specs.Queue.{HasStartedQueue, IsFirstInTurn};
+ghost use Rattle.flow_book.specs.Queue.{HasStartedQueue, HasStartedPart, IsFirstInTurn, IsFirstAble, IsPassed};
+ghost use Rattle.flow_book.specs.Queue.{NoneWaitsBefore, still_waits};
 
 use crate::bucket::Bucket;
 use crate::flow::{Flow, Room, SIDS, turn_after};
+use crate::flows::Flows;
 use minislots::Checked;
 use std::alloc::{AllocError, Global};
 
@@ -47,6 +49,7 @@ impl Waiting {
         ensures wants { self.new.wants + result ≡ self.old.wants }
         ensures place { self.new.place ≡ self.old.place }
         ensures bucket { HasOneMore self.old.bucket self.new.bucket start result }
+        ensures settled { StaysSettled self.old.bucket self.new.bucket start result }
         ensures turn { (rank : ℕ) (last : Option ℕ) (sid : ℕ)
             → IsTurn rank last sid self.old.turn → IsTurn rank (Some start) sid self.new.turn }
         ensures later { (rank : ℕ) (last : Option ℕ) (sid : ℕ) → IsTurn rank last sid self.old.turn
@@ -61,7 +64,7 @@ impl Waiting {
 }
 
 // The place in the queue of the first of a later turn, or its end.
-fn place_after(queue: &[Waiting], turn: u128) -> usize
+pub(crate) fn place_after(queue: &[Waiting], turn: u128) -> usize
     requires { AscendBy (λ w. w.turn) queue.now }
     ensures place { result ≡ position_or_len (λ w. nat_lt turn w.turn) queue.now }
     ensures within { result ≤ length queue.now }
@@ -77,9 +80,10 @@ fn index_of(queue: &[Waiting], place: usize) -> Option<usize>
 }
 
 // Puts one that waits into the queue, before the first of a later turn.
-fn put_in_turn(queue: &mut Vec<Waiting>, waiting: Waiting) -> Result<(), AllocError>
+pub(crate) fn put_in_turn(queue: &mut Vec<Waiting>, waiting: Waiting) -> Result<(), AllocError>
     requires { AscendBy (λ w. w.turn) queue.old.items }
-    ensures { OnOk result (queue.new.items ≡ put_in (λ w. w.turn) waiting queue.old.items) }
+    ensures put { OnOk result (queue.new.items ≡ put_in (λ w. w.turn) waiting queue.old.items) }
+    ensures same { OnErr result (queue.new.items ≡ queue.old.items) }
 {
     let index = place_after(queue, waiting.turn);
     queue.insert(index, waiting)?;
@@ -87,13 +91,13 @@ fn put_in_turn(queue: &mut Vec<Waiting>, waiting: Waiting) -> Result<(), AllocEr
 }
 
 // The queue of all flows that wait.
-pub(crate) fn queue_of(alloc: Global, flows: &[Flow]) -> Result<Vec<Waiting>, AllocError>
+pub(crate) fn queue_of(alloc: Global, flows: &Flows) -> Result<Vec<Waiting>, AllocError>
     requires { (c : Config) × IsBook c flows.now }
     ensures { IfOk result (λ queue. IsQueue flows.now queue.items) }
 {
     let mut queue = Vec::with_capacity(alloc, flows.len())?;
     for place in 0..flows.len() {
-        let waiting = waiting_of(&flows[place], place);
+        let waiting = waiting_of(flows.at(place), place);
         if waiting.wants > 0 {
             put_in_turn(&mut queue, waiting)?;
         }
@@ -116,8 +120,29 @@ pub(crate) fn first_in_turn(
     ensures within { IfSome result (λ index. index < length queue.now) }
     ensures lawful { IsLawful config.now }
 {
+    first_able(queue, 0, config, start, room)
+}
+
+// Where in a list of those that wait, of which none before the first place wants anything, the first stands that may be
+// served at this minislot.
+pub(crate) fn first_able(
+    queue: &[Waiting],
+    first: usize,
+    config: &Checked,
+    start: u64,
+    room: Room,
+) -> Option<usize>
+    requires room { IsRoom config.now room }
+    requires passed { NoneWaitsBefore first queue.now }
+    requires started { (items : List Flow) × HasStartedPart config.now items queue.now start }
+    ensures next { (items : List Flow) → HasStartedPart config.now items queue.now start → MatchOption result
+        (AllByRecursion (IsPassed config.now start room.slots items) (filter still_waits queue.now))
+        (IsFirstAble config.now items queue.now start room.slots) }
+    ensures within { IfSome result (λ index. index < length queue.now) }
+    ensures lawful { IsLawful config.now }
+{
     let quantum = u64::from(config.quantum());
-    for index in 0..queue.len() {
+    for index in first..queue.len() {
         let waiting = &queue[index];
         let wanted = waiting.wants.min(quantum);
         if wanted > 0 && wanted <= room.bytes && waiting.bucket.has(start, wanted as u32) {
@@ -163,14 +188,14 @@ fn move_to_turn(queue: &mut Vec<Waiting>, waiting: Waiting) -> Result<(), AllocE
 }
 
 // Moves the flow at this place of a book, which has changed, to its turn in the queue, or takes it out.
-fn put_again(queue: &mut Vec<Waiting>, flows: &[Flow], place: usize) -> Result<(), AllocError>
+fn put_again(queue: &mut Vec<Waiting>, flows: &Flows, place: usize) -> Result<(), AllocError>
     requires book { (c : Config) × IsBook c flows.now }
     requires within { place < length flows.now }
     requires queue { (before : List Flow)
         × AreSameBut place before flows.now × IsQueue before queue.old.items }
     ensures { OnOk result (IsQueue flows.now queue.new.items) }
 {
-    let waiting = waiting_of(&flows[place], place);
+    let waiting = waiting_of(flows.at(place), place);
     if waiting.wants > 0 {
         move_to_turn(queue, waiting)?;
         return Ok(());
@@ -268,12 +293,7 @@ pub(crate) fn copy_of(queue: &Vec<Waiting>) -> Result<Vec<Waiting>, AllocError>
 }
 
 // Keeps a queue that is known where the flow at this place of a book has changed, and answers whether it still is.
-pub(crate) fn follow(
-    queue: &mut Vec<Waiting>,
-    is_queued: bool,
-    flows: &[Flow],
-    place: usize,
-) -> bool
+pub(crate) fn follow(queue: &mut Vec<Waiting>, is_queued: bool, flows: &Flows, place: usize) -> bool
     requires book { (c : Config) × IsBook c flows.now }
     requires within { place < length flows.now }
     requires queue { is_queued ≡ true → (before : List Flow)

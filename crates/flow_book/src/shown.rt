@@ -1,20 +1,24 @@
 //! The flows that a MAP shows by pending grants: of those in a queue that still wait the first so many, by the minislot
 //! since which they wait.
 
-ghost use Rattle.std.specs.Prelude.{◌≡◌, ◌<◌, ◌≤◌, ◌^◌, List, take, map, filter, IfOk, OnOk};
+ghost use Rattle.std.specs.Prelude.{◌≡◌, ◌<◌, ◌≤◌, ◌/◌, ◌^◌, ℕ, List, true, take, map, filter, length, nat_le};
+ghost use Rattle.std.specs.Prelude.{if◌then◌else◌, IfOk, OnOk};
 ghost use Rattle.std.specs.List.{AllZip};
 ghost use Rattle.minislots.specs.declared.config.Config.{Config};
 ghost use Rattle.flow_book.specs.declared.flow.Flow.{Flow};
 ghost use Rattle.flow_book.specs.Flows.{LiveFlow};
 ghost use Rattle.flow_book.specs.Entry.{live, IsBook};
-ghost use Rattle.flow_book.specs.Queue.{IsQueue};
+ghost use Rattle.flow_book.specs.Queue.{still_waits, IsQueueIn};
+ghost use Rattle.flow_book.specs.Marks.{bit_of};
 ghost use Rattle.flow_book.specs.Shown.{IsFirstHidden, is_shown, ack_of, number_of};
-ghost use Rattle.flow_book.specs.Sids.{AscendBy, put_in};
-ghost use Rattle.flow_book.specs.Line.{itself, sorted, held_back};
+ghost use Rattle.flow_book.specs.Sids.{put_in};
+ghost use Rattle.flow_book.specs.Line.{itself, IsInOrder, sorted_into, sorted, held_back};
 ghost use Rattle.flow_book.specs.Overlay.{IsSameFlow};
-ghost use Rattle.flow_book.specs.Pending.{still_waits, pending_of, number_at, is_ahead, ArePending, AreInLine};
+ghost use Rattle.flow_book.specs.Pending.{waiting_in, number_at, is_ahead, has_place, AreInLine};
 
-use crate::flow::{Flow, SIDS};
+use crate::flow::SIDS;
+use crate::flows::Flows;
+use crate::marks::{mark, no_marks, sids_marked};
 use crate::queue::Waiting;
 use std::alloc::{AllocError, Global};
 
@@ -25,21 +29,11 @@ pub(crate) struct Hidden {
     number: u128,
 }
 
-/// A flow that waits after a MAP.
-#[derive(Clone, Copy, Debug, PartialEq, Eq)]
-pub struct Pending {
-    /// Its SID.
-    pub sid: u16,
-    // Its place among the flows, and the bytes that it waits for.
-    place: usize,
-    wants: u64,
-}
-
-/// The flows that a MAP shows by pending grants, in order of SID, and its acknowledge time.
+/// The flows that a MAP shows by pending grants, and its acknowledge time.
 #[derive(Drop)]
 pub struct Shown {
-    /// The flows.
-    pub pending: Vec<Pending>,
+    /// The SIDs of the flows, in order.
+    pub pending: Vec<u16>,
     /// The acknowledge time.
     pub ack: u64,
 }
@@ -51,108 +45,145 @@ fn number_of(since: u64, sid: u16) -> u128
     u128::from(since) * SIDS + u128::from(sid)
 }
 
+// The number by which one that waits stands in line. There is a flow at its place.
+fn number_at(waiting: &Waiting, flows: &Flows) -> u128
+    ensures { result ≡ number_at flows.now waiting.now }
+{
+    match flows.get(waiting.place) {
+        Some(flow) => number_of(flow.since_with(waiting.wants), flow.sid),
+        None => 0,
+    }
+}
+
+// So many numbers are kept, and none of them is greater than this one, so that it has no place among them.
+fn is_behind(line: &[u128], most: usize, number: u128) -> bool
+    requires { IsInOrder line.now }
+    ensures { result ≡ true → take most (put_in itself number line.now) ≡ line.now }
+{
+    match line.last() {
+        Some(last) => line.len() == most && *last <= number,
+        None => false,
+    }
+}
+
 // Puts a number in its place among the least so many.
 fn keep_least(line: &mut Vec<u128>, most: usize, number: u128) -> Result<(), AllocError>
-    requires { AscendBy itself line.old.items }
+    requires { IsInOrder line.old.items }
     ensures { OnOk result (line.new.items ≡ take most (put_in itself number line.old.items)) }
 {
+    if is_behind(line, most, number) {
+        return Ok(());
+    }
     let place = line.partition_point(|other| *other <= number);
     line.insert(place, number)?;
     line.truncate(most);
     Ok(())
 }
 
-// What is kept of one that waits in the queue.
-fn pending_of(waiting: &Waiting) -> Pending
-    ensures { result ≡ pending_of waiting.now }
+// Puts the numbers of those that still wait among the least so many.
+fn put_in_line(
+    line: &mut Vec<u128>,
+    part: &[Waiting],
+    flows: &Flows,
+    most: usize,
+) -> Result<(), AllocError>
+    requires { IsInOrder line.old.items }
+    ensures order { OnOk result (IsInOrder line.new.items) }
+    ensures kept { OnOk result ((whole : List ℕ) → line.old.items ≡ take most whole → line.new.items
+        ≡ take most (sorted_into whole (map (number_at flows.now) (filter still_waits part.now)))) }
 {
-    Pending {
-        sid: (waiting.turn % SIDS) as u16,
-        place: waiting.place,
-        wants: waiting.wants,
-    }
-}
-
-// Those of the queue that still wait.
-fn waiting_in(alloc: Global, queue: &[Waiting]) -> Result<Vec<Pending>, AllocError>
-    ensures { IfOk result (λ pending. pending.items ≡ map pending_of (filter still_waits queue.now)) }
-{
-    let mut pending = Vec::with_capacity(alloc, queue.len())?;
-    for waiting in queue {
+    for waiting in part {
         if waiting.wants > 0 {
-            pending.push(pending_of(waiting))?;
+            keep_least(line, most, number_at(waiting, flows))?;
         }
     }
-    Ok(pending)
-}
-
-// Those of the queue that still wait, in order of SID.
-fn pending_in(alloc: Global, queue: &[Waiting]) -> Result<Vec<Pending>, AllocError>
-    ensures { IfOk result (λ pending. (c : Config) (items : List Flow) → IsBook c items
-        → IsQueue items queue.now → ArePending (map live items) pending.items) }
-{
-    let mut pending = waiting_in(alloc, queue)?;
-    pending.sort_unstable_by_key(|one| one.sid);
-    Ok(pending)
-}
-
-// The number by which one that waits stands in line. There is a flow at its place.
-fn number_at(one: &Pending, flows: &[Flow]) -> u128
-    ensures { result ≡ number_at flows.now one.now }
-{
-    match flows.get(one.place) {
-        Some(flow) => number_of(flow.since_with(one.wants), one.sid),
-        None => 0,
-    }
+    Ok(())
 }
 
 // The numbers of the first so many that wait.
 fn first_in_line(
     alloc: Global,
-    pending: &[Pending],
-    flows: &[Flow],
+    queue: &[Waiting],
+    served: &[Waiting],
+    flows: &Flows,
     most: usize,
 ) -> Result<Vec<u128>, AllocError>
-    requires { (after : List LiveFlow) × AreInLine flows.now pending.now after }
-    ensures { IfOk result (λ line.
-        line.items ≡ take most (sorted (map (number_at flows.now) pending.now))) }
+    ensures { IfOk result (λ line. line.items
+        ≡ take most (sorted (map (number_at flows.now) (waiting_in queue.now served.now)))) }
 {
-    let mut line = Vec::new(alloc);
-    for one in pending {
-        keep_least(&mut line, most, number_at(one, flows))?;
-    }
+    let mut line = Vec::with_capacity(alloc, most.saturating_add(1))?;
+    put_in_line(&mut line, queue, flows, most)?;
+    put_in_line(&mut line, served, flows, most)?;
     Ok(line)
+}
+
+// How many of these still wait.
+fn count_waiting(part: &[Waiting]) -> usize
+    ensures count { result ≡ length (filter still_waits part.now) }
+    ensures within { result ≤ length part.now }
+{
+    let mut count = 0;
+    for waiting in part {
+        if waiting.wants > 0 {
+            count += 1;
+        }
+    }
+    count
+}
+
+// No more wait than so many.
+fn wait_few(queue: &[Waiting], served: &[Waiting], most: usize) -> bool
+    ensures { result ≡ nat_le (length (waiting_in queue.now served.now)) most }
+{
+    if queue.len() + served.len() <= most {
+        return true;
+    }
+    count_waiting(queue) + count_waiting(served) <= most
 }
 
 // The first of those that wait that is not among the first so many: where no more wait none is, and no memory is taken.
 fn first_hidden(
     alloc: Global,
-    pending: &[Pending],
-    flows: &[Flow],
+    queue: &[Waiting],
+    served: &[Waiting],
+    flows: &Flows,
     most: usize,
 ) -> Result<Option<Hidden>, AllocError>
-    requires line { (after : List LiveFlow) × AreInLine flows.now pending.now after }
-    requires few { most < 2 ^ 32 }
+    requires { most < 2 ^ 32 }
     ensures { IfOk result (λ hidden. (after : List LiveFlow)
-        → AreInLine flows.now pending.now after → IsFirstHidden most after hidden) }
+        → AreInLine flows.now (waiting_in queue.now served.now) after → IsFirstHidden most after hidden) }
 {
-    if pending.len() <= most {
+    if wait_few(queue, served, most) {
         return Ok(None);
     }
-    let line = first_in_line(alloc, pending, flows, most + 1)?;
+    let line = first_in_line(alloc, queue, served, flows, most + 1)?;
     match line.get(most) {
         Some(number) => Ok(Some(Hidden { number: *number })),
         None => Ok(None),
     }
 }
 
-// Keeps those that come before the first that is hidden.
-fn keep_ahead(pending: &mut Vec<Pending>, flows: &[Flow], hidden: &Option<Hidden>)
-    ensures { pending.new.items ≡ filter (is_ahead flows.now hidden.now) pending.old.items }
+// One still waits, and comes before the first that is hidden.
+fn is_ahead(waiting: &Waiting, flows: &Flows, hidden: &Option<Hidden>) -> bool
+    ensures { result ≡ is_ahead flows.now hidden.now waiting.now }
 {
-    if let Some(hidden) = hidden {
-        let number = hidden.number;
-        pending.retain(|one| number_at(one, flows) < number);
+    match hidden {
+        Some(hidden) => waiting.wants > 0 && number_at(waiting, flows) < hidden.number,
+        None => waiting.wants > 0,
+    }
+}
+
+// Marks the places of those that still wait and come before the first that is hidden.
+fn mark_ahead(words: &mut [u64], part: &[Waiting], flows: &Flows, hidden: &Option<Hidden>)
+    ensures marked { (place : ℕ) → place / 64 < length words.old → bit_of words.new place
+        ≡ (if has_place place (filter (is_ahead flows.now hidden.now) part.now) then 1
+        else bit_of words.old place) }
+    ensures len { length words.new ≡ length words.old }
+{
+    for waiting in part {
+        if is_ahead(waiting, flows, hidden) {
+            mark(words, waiting.place);
+        }
     }
 }
 
@@ -166,29 +197,32 @@ pub(crate) fn held_back(hidden: &Option<Hidden>, progress: u64) -> u64
     }
 }
 
-// The first so many of those in the queue that still wait, all where there are no more, and the acknowledge time. The
-// queue is one of the flows with the data grants of a MAP.
+// The first so many of those that still wait, all where there are no more, and the acknowledge time. The queue is in
+// two parts: those that waited before a MAP, and those that it served. They are of the flows with its data grants.
 pub(crate) fn show(
     alloc: Global,
     queue: &[Waiting],
-    flows: &[Flow],
+    served: &[Waiting],
+    flows: &Flows,
     most: usize,
     progress: u64,
 ) -> Result<Shown, AllocError>
     requires few { most < 2 ^ 32 }
-    requires queue { (c : Config) × (items : List Flow) × IsBook c items × IsQueue items queue.now
+    requires queue { (c : Config) × (items : List Flow) × IsBook c items × IsQueueIn items queue.now served.now
         × AllZip IsSameFlow (map live flows.now) (map live items) }
     ensures pending { IfOk result (λ s. (c : Config) (items : List Flow) → IsBook c items
-        → IsQueue items queue.now → AllZip IsSameFlow (map live flows.now) (map live items)
-        → map (λ p. p.sid) s.pending.items
-        ≡ map (λ f. f.sid) (filter (is_shown most (map live items)) (map live items))) }
+        → IsQueueIn items queue.now served.now → AllZip IsSameFlow (map live flows.now) (map live items)
+        → s.pending.items ≡ map (λ f. f.sid) (filter (is_shown most (map live items)) (map live items))) }
     ensures ack { IfOk result (λ s. (c : Config) (items : List Flow) → IsBook c items
-        → IsQueue items queue.now → AllZip IsSameFlow (map live flows.now) (map live items)
+        → IsQueueIn items queue.now served.now → AllZip IsSameFlow (map live flows.now) (map live items)
         → s.ack ≡ ack_of most progress (map live items)) }
 {
-    let mut pending = pending_in(alloc, queue)?;
-    let hidden = first_hidden(alloc, &pending, flows, most)?;
-    keep_ahead(&mut pending, flows, &hidden);
+    let hidden = first_hidden(alloc, queue, served, flows, most)?;
+    let mut words = no_marks(alloc, flows.len())?;
+    mark_ahead(&mut words, queue, flows, &hidden);
+    mark_ahead(&mut words, served, flows, &hidden);
+    let room = most.min(queue.len() + served.len());
+    let pending = sids_marked(alloc, &words, flows, room)?;
     let ack = held_back(&hidden, progress);
     Ok(Shown { pending, ack })
 }

@@ -1,6 +1,6 @@
 //! The MAP of one frame while it is made.
 
-ghost use Rattle.std.specs.Prelude.{◌≡◌, ◌<◌, ◌≤◌, ◌+◌, ◌^◌, List, [], IfOk, OnOk, map};
+ghost use Rattle.std.specs.Prelude.{◌≡◌, ◌<◌, ◌≤◌, ◌+◌, ◌^◌, List, [], IfOk, OnOk};
 ghost use Rattle.std.specs.List.{AllByRecursion};
 ghost use Rattle.map_codec.specs.WireMap.{FitsHeader};
 ghost use Rattle.flow_book.specs.Choice.{HasStartedBy};
@@ -19,7 +19,7 @@ ghost use Rattle.map_build.specs.Walk.{HasPlan};
 use crate::MAX_WAITING;
 use crate::purpose::{Allocation, BROADCAST, NOBODY};
 use crate::usage_codes::long_iuc;
-use flow_book::{Book, Overlay, Pending};
+use flow_book::{Book, Overlay};
 use map_codec::{Element, Elements, MAX_ELEMENTS, WireMap, iuc};
 use minislots::{Checked, wire};
 use sched_calls::{ByteCounts, FrameMap, Header};
@@ -115,14 +115,14 @@ impl Draft {
         Ok(shown.ack)
     }
 
-    // A pending grant to each of these flows.
-    fn put_pending(&mut self, pending: &[Pending]) -> Result<(), AllocError>
+    // A pending grant to each of the flows with these SIDs.
+    fn put_pending(&mut self, pending: &[u16]) -> Result<(), AllocError>
         requires { self.old.offset ≡ self.old.overlay.config.frame }
-        ensures { OnOk result (PutsPending (map (λ p. p.sid) pending.now) self.old self.new) }
+        ensures { OnOk result (PutsPending pending.now self.old self.new) }
     {
         let iuc = long_iuc(self.overlay.config());
-        for one in pending {
-            self.put(one.sid, iuc, 0)?;
+        for sid in pending {
+            self.put(*sid, iuc, 0)?;
         }
         Ok(())
     }

@@ -1,6 +1,6 @@
 //! The walk along a frame: what stands at each offset, up to the end.
 
-ghost use Rattle.std.specs.Prelude.{◌≡◌, ◌<◌, ◌≤◌, ◌+◌, ◌^◌, ◌==◌, List, [], OnOk, find, option_copied, length};
+ghost use Rattle.std.specs.Prelude.{◌≡◌, ◌<◌, ◌≤◌, ◌+◌, ◌^◌, ◌==◌, List, [], OnOk, IfOk, find, option_copied, length};
 ghost use Rattle.minislots.specs.declared.config.Config.{Config};
 ghost use Rattle.sched_calls.specs.declared.opportunity.Opportunity.{Opportunity as Offered};
 ghost use Rattle.map_build.specs.declared.TheConstants.{MAX_WAITING};
@@ -33,7 +33,7 @@ impl Draft {
         let most = most_grants(self.overlay.config()) - waiting.len();
         let mut left = spots;
         while self.offset < frame {
-            let next = self.next(left, waiting, most);
+            let next = self.next(left, waiting, most)?;
             self.put_allocation(next)?;
             left = left_at(left, self.offset);
         }
@@ -43,30 +43,35 @@ impl Draft {
     // What stands at the offset that is reached, by class: the spot that begins there, else the first opportunity that
     // waits and fits, else a data grant to the flow that is next, where the MAP may have one more, else an idle. The
     // spots are those that are left.
-    fn next(&mut self, spots: &[Spot], waiting: &[Opportunity], most: usize) -> Allocation
+    fn next(
+        &mut self,
+        spots: &[Spot],
+        waiting: &[Opportunity],
+        most: usize,
+    ) -> Result<Allocation, AllocError>
         requires most { most ≡ most_grants self.old.overlay.config waiting.now }
         requires placed { AreInFrame self.old.overlay.config spots.now }
         requires waiting { MayWait waiting.now }
         requires ahead { AreAhead self.old.offset spots.now }
         requires ready { IsWellBegun waiting.now self.old }
         requires inside { self.old.offset < self.old.overlay.config.frame }
-        ensures { Chooses spots.now waiting.now result self.old self.new }
+        ensures { IfOk result (λ next. Chooses spots.now waiting.now next self.old self.new) }
     {
         if let Some(spot) = spot_at(spots, self.offset) {
-            return allocation_of(*spot);
+            return Ok(allocation_of(*spot));
         }
         let room = next_stop(spots, self.offset, self.overlay.config()) - self.offset;
         if let Some(offer) = self.meet(waiting, room) {
-            return offer;
+            return Ok(offer);
         }
-        if let Some(grant) = self.serve(most, room) {
-            return grant;
+        if let Some(grant) = self.serve(most, room)? {
+            return Ok(grant);
         }
-        Allocation {
+        Ok(Allocation {
             offset: self.offset,
             slots: room,
             purpose: Purpose::Idle,
-        }
+        })
     }
 
     // The first opportunity that waits and fits. The draft has it from now on.
@@ -92,24 +97,26 @@ impl Draft {
     }
 
     // The data grant of the book to the flow that is next, where the MAP has fewer than the most that it may have.
-    fn serve(&mut self, most: usize, room: u16) -> Option<Allocation>
+    fn serve(&mut self, most: usize, room: u16) -> Result<Option<Allocation>, AllocError>
         requires ready { (waiting : List Offered)
             × IsWellBegun waiting self.old × (most ≡ most_grants self.old.overlay.config waiting) }
-        ensures { (waiting : List Offered) → IsWellBegun waiting self.old
+        ensures { IfOk result (λ grant. (waiting : List Offered) → IsWellBegun waiting self.old
             → most ≡ most_grants self.old.overlay.config waiting
-            → ServesNext waiting room result self.old self.new }
+            → ServesNext waiting room grant self.old self.new) }
     {
         if self.grants >= most {
-            return None;
+            return Ok(None);
         }
         let start = self.minislot();
-        let served = self.overlay.serve(start, u32::from(room))?;
+        let Some(served) = self.overlay.serve(start, u32::from(room))? else {
+            return Ok(None);
+        };
         self.grants += 1;
-        Some(Allocation {
+        Ok(Some(Allocation {
             offset: self.offset,
             slots: self.overlay.config().slots_for(served.bytes) as u16,
             purpose: Purpose::DataGrant(served.sid, served.bytes),
-        })
+        }))
     }
 }
 

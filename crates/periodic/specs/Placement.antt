@@ -9,11 +9,12 @@ use Rattle.sched_calls.specs.declared.placement.Placement.{Placement}
 use Rattle.periodic.specs.declared.TheConstants.{MAX_SPOTS}
 use Rattle.periodic.specs.declared.placement.Spot.{Spot}
 
--- a periodic flow with its placement
+-- a periodic flow with its placement, and whether it rests
 pub record Placed : Type 0 where
   pub sid : ℕ
   pub spec : FlowSpec
   pub placement : Placement
+  pub rests : Bool
 
 -- the numbers from first on, so many of them
 abbrev pub count_from : ℕ → ℕ → List ℕ
@@ -53,6 +54,20 @@ spots_of c k flow = map (spot_at c flow) (starts_in c flow.spec flow.placement (
 -- what the placed flows take of frame k
 abbrev pub spots_in : Config → ℕ → List Placed → List Spot
 spots_in c k table = flat_map (spots_of c k) table
+
+-- the poll of a flow that rests, from this start on
+abbrev pub poll_at : Config → Placed → ℕ → Spot
+poll_at c flow start = record { sid = flow.sid; size = None; offset = start; slots = c.poll_slots }
+
+-- what a placed flow is to have of frame k: what it takes, or where it rests a poll at the first of its starts
+abbrev pub due_of : Config → ℕ → Placed → List Spot
+due_of c k flow =
+    if flow.rests then map (poll_at c flow) (take 1 (starts_in c flow.spec flow.placement (k % c.cycle)))
+    else spots_of c k flow
+
+-- what the placed flows are to have of frame k
+abbrev pub due_in : Config → ℕ → List Placed → List Spot
+due_in c k table = flat_map (due_of c k) table
 
 -- none of these spots has one of the minislots
 abbrev pub AreFree : List Spot → ℕ → ℕ → Type 0

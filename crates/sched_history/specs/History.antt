@@ -7,7 +7,7 @@ use Rattle.sched_calls.specs.declared.spec.FlowSpec.TheVariants.{Unsolicited, Po
 use Rattle.sched_calls.specs.FlowSpec.{takes_requests}
 use Rattle.flow_book.specs.Flows.{LiveFlow, granted, outstanding}
 use Rattle.sched_calls.specs.declared.placement.Placement.{Placement}
-use Rattle.periodic.specs.Placement.{IsPlacement, NoPlacement, spots_in}
+use Rattle.periodic.specs.Placement.{IsPlacement, NoPlacement, due_in}
 use Rattle.sched_calls.specs.declared.frame_map.FrameMap.{FrameMap}
 use Rattle.map_build.specs.EachAfter.{EachAfter}
 use Rattle.map_build.specs.Plan.{Demand, demand_at}
@@ -38,13 +38,35 @@ AnswersAdmit c h (Polled interval jitter rate burst) reply =
     PlacesOrRefuses c h (Polled interval jitter rate burst) reply
 AnswersAdmit c h (BestEffort priority rate burst) reply = reply ≡ replies.Admitted None
 
+-- A placement that stands, told from the next frame on: its starts, and its first nominal time there
+pub record IsToldFrom (c : Config) (spec : FlowSpec) (next : ℕ) (stands p : Placement) : Type 0 where
+  pub starts : p.starts ≡ stands.starts
+  pub not_before : next ≤ p.reference
+  pub first : p.reference < next + interval_frames c spec * c.frame
+  pub nominal : p.reference % (interval_frames c spec * c.frame) ≡ stands.reference % (interval_frames c spec * c.frame)
+
+-- a flow of these parameters and this placement is placed anew beside the others, or refused where there is no place
+abbrev pub PlacesAnew : Config → List Entry → ℕ → FlowSpec → Reply → Type 0
+PlacesAnew c h sid spec reply = ((p : Placement)
+    × IsPlacement c (without sid (table_of h)) spec (next_after c h) p × (reply ≡ replies.Changed (Some p)))
+    ⊎ (NoPlacement c (without sid (table_of h)) spec (next_after c h) × (reply ≡ replies.Refused NoPlace))
+
+-- a change's answer, of a flow that had these parameters and this placement: a best effort flow has no place
+abbrev pub AnswersChange : Config → List Entry → ℕ → Admission → FlowSpec → Reply → Type 0
+AnswersChange c h sid given spec reply =
+    if has_place_of given.spec spec then
+        (p : Placement) × IsSomeAnd given.placement (λ stands. IsToldFrom c spec (next_after c h) stands p)
+        × (reply ≡ replies.Changed (Some p))
+    else if is_periodic spec then PlacesAnew c h sid spec reply
+    else reply ≡ replies.Changed None
+
 -- the bytes that a status answers for a live flow: zeros where it does not ask
 abbrev pub flow_status : LiveFlow → Reply
 flow_status f = if takes_requests f.spec then replies.Flow f.asked (granted f) (outstanding f) else replies.Flow 0 0 0
 
 -- what the next frame has to serve
 abbrev pub demand_after : Config → List Entry → Demand
-demand_after c h = demand_at (flows_of c h) (spots_in c (next_after c h / c.frame) (table_of h))
+demand_after c h = demand_at (flows_of c h) (due_in c (next_after c h / c.frame) (table_of h))
     (waiting_in (reserves_of h)) (next_after c h)
 
 -- the MAP is the lawful one of the next frame
@@ -62,6 +84,11 @@ abbrev pub Answers : Config → List Entry → Call → Reply → Type 0
 Answers c h (Admit sid spec) reply = AnswersAdmit c h spec reply
 Answers c h (Remove sid) reply = reply ≡ replies.Removed
 Answers c h (Ask receiver sid amount heard) reply = reply ≡ replies.Taken
+Answers c h (Replace receiver sid amount heard) reply = reply ≡ replies.Taken
+Answers c h (Change sid spec) reply = MatchOption (life_of sid h) ⊥
+    (λ life. AnswersChange c h sid (given_after sid life.admission life.since) spec reply)
+Answers c h (Rest sid) reply = reply ≡ replies.Noted
+Answers c h (Wake sid) reply = reply ≡ replies.Noted
 Answers c h (Heard receiver upto) reply = reply ≡ replies.Noted
 Answers c h (Build now) reply = (m : FrameMap) × IsNextMap c h m × (reply ≡ replies.Built m)
 Answers c h (Skip now) reply = (start : ℕ) × IsFirstStart c (now + c.lead) start × (reply ≡ replies.Skipped start)

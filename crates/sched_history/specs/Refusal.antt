@@ -53,6 +53,10 @@ most_exponent = 15
 abbrev pub is_bad_amount : Config → Amount → Bool
 is_bad_amount c amount = requested c amount == 0 || nat_lt most_bytes (requested c amount)
 
+-- whether no more may be outstanding by one request
+abbrev pub is_great_amount : Config → Amount → Bool
+is_great_amount c amount = nat_lt most_bytes (requested c amount)
+
 -- whether no flow can have this SID
 abbrev pub bad_sid : ℕ → Bool
 bad_sid sid = sid == 0 || nat_lt last_sid sid
@@ -61,9 +65,26 @@ bad_sid sid = sid == 0 || nat_lt last_sid sid
 abbrev pub is_live : ℕ → List Entry → Bool
 is_live sid h = is_some (life_of sid h)
 
+-- whether this is so of the present parameters of the live flow of this SID
+abbrev pub has_live : (FlowSpec → Bool) → ℕ → List Entry → Bool
+has_live test sid h =
+    option_map_or (λ life. test (given_after sid life.admission life.since).spec) (life_of sid h) false
+
 -- whether the live flow of this SID does not ask for bytes
 abbrev pub is_silent : ℕ → List Entry → Bool
-is_silent sid h = option_map_or (λ life. not (takes_requests life.admission.spec)) (life_of sid h) false
+is_silent sid h = has_live (λ spec. not (takes_requests spec)) sid h
+
+-- whether a flow is unsolicited
+abbrev pub is_unsolicited : FlowSpec → Bool
+is_unsolicited spec = is_periodic spec && not (takes_requests spec)
+
+-- whether a flow's grant has fewer minislots than a poll
+abbrev pub is_short_of_poll : Config → FlowSpec → Bool
+is_short_of_poll c spec = nat_lt (periodic_slots c spec) c.poll_slots
+
+-- the grants per interval of the live flows but of this SID
+abbrev pub other_grants : Config → ℕ → List Entry → ℕ
+other_grants c sid h = sum_by (λ f. grants_of f.spec) (without sid (flows_of c h))
 
 -- the grants per interval of the live flows
 abbrev pub periodic_grants : Config → List Entry → ℕ
@@ -96,6 +117,30 @@ refusal_of c h (Ask receiver sid amount heard) = first_of (
     refused_if (is_bad_amount c amount) BadBytes ∷
     refused_if (nat_lt heard (progress_of c receiver h)) (Acked (progress_of c receiver h)) ∷
     refused_if (nat_le (next_after c h) heard) (Ahead (next_after c h)) ∷ [])
+refusal_of c h (Replace receiver sid amount heard) = first_of (
+    refused_if (bad_sid sid) BadSid ∷
+    refused_if (not (is_live sid h)) NoFlow ∷
+    refused_if (is_silent sid h) NotAsking ∷
+    refused_if (nat_le c.receivers receiver) BadReceiver ∷
+    refused_if (is_great_amount c amount) BadBytes ∷
+    refused_if (nat_lt heard (progress_of c receiver h)) (Acked (progress_of c receiver h)) ∷
+    refused_if (nat_le (next_after c h) heard) (Ahead (next_after c h)) ∷ [])
+refusal_of c h (Change sid spec) = first_of (
+    refused_if (bad_sid sid) BadSid ∷
+    refused_if (not (is_live sid h)) NoFlow ∷
+    refused_if (not (has_live (is_kind_of spec) sid h)) OtherKind ∷
+    option_map BadFlow (first_fault c spec) ∷
+    refused_if (is_periodic spec && nat_lt c.periodic
+    (other_grants c sid h + grants_of spec)) PeriodicFull ∷ [])
+refusal_of c h (Rest sid) = first_of (
+    refused_if (bad_sid sid) BadSid ∷
+    refused_if (not (is_live sid h)) NoFlow ∷
+    refused_if (not (has_live is_unsolicited sid h)) NotUnsolicited ∷
+    refused_if (has_live (is_short_of_poll c) sid h) TooShort ∷ [])
+refusal_of c h (Wake sid) = first_of (
+    refused_if (bad_sid sid) BadSid ∷
+    refused_if (not (is_live sid h)) NoFlow ∷
+    refused_if (not (has_live is_unsolicited sid h)) NotUnsolicited ∷ [])
 refusal_of c h (Heard receiver upto) = first_of (
     refused_if (nat_le c.receivers receiver) BadReceiver ∷
     refused_if (nat_lt (next_after c h) upto) (Ahead (next_after c h)) ∷

@@ -9,7 +9,7 @@ use Rattle.map_codec.specs.WireMap.{IsWellFormed}
 use Rattle.flow_book.specs.declared.batches.Batches.{Batches}
 use Rattle.flow_book.specs.Flows.{LiveFlow}
 use Rattle.flow_book.specs.Choice.{HasStartedBy}
-use Rattle.periodic.specs.Placement.{spots_in}
+use Rattle.periodic.specs.Placement.{due_in}
 use Rattle.map_build.specs.Plan.{Demand, demand_at}
 use Rattle.sched_history.specs.declared.scheduler.state.State.{State}
 use Rattle.sched_history.specs.declared.scheduler.answering.Answer.{Answer}
@@ -32,7 +32,7 @@ use Rattle.sched_calls.specs.Reply.{IsEncodable}
 
 -- what the next frame has to serve, by the fields
 abbrev pub next_demand : State → Demand
-next_demand s = demand_at s.book.flows (spots_in s.config (s.next / s.config.frame) s.table.placed)
+next_demand s = demand_at s.book.flows (due_in s.config (s.next / s.config.frame) s.table.placed)
     (waiting_in s.reserves) s.next
 
 -- The bounds of what a scheduler keeps, after so many calls

@@ -5,9 +5,9 @@ use Rattle.flow_book.specs.Choice.{IsNextOf}
 use Rattle.flow_book.specs.Entry.{live, KnowsTurn}
 use Rattle.flow_book.proofs.flow.first_eligible.Given as goal
 
-abbrev pub invariant-loop-flow : goal.invariant-loop-flow
-invariant-loop-flow l = record {
-  next : IsNextOf l.config l.start l.room (map live (take l.flow-index l.flows))
+abbrev pub invariant-loop-place : goal.invariant-loop-place
+invariant-loop-place l = record {
+  next : IsNextOf l.config l.start l.room (map live (take l.place l.flows))
       (option_map live (option_copied l.next));
   known : IfSome l.next (λ n. KnowsTurn n.now);
 }

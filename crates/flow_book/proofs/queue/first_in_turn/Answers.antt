@@ -1,92 +1,14 @@
--- Each that is gone through is asked whether its flow may be served.
-use Rattle.std.proofs.Common.{◌≡◌, ℕ, ◌+◌, refl, sym, ap, ◌∙◌, subst, take, drop, ◌++◌, ◌∷◌, [], length, true, false}
-use Rattle.std.proofs.Common.{slice_get, List, Some, arith}
-use Rattle.std.specs.List.{AllByRecursion}
-use Rattle.std.proofs.lemmas.List.{take_more, drop_more, take-append-drop, take_all}
-use Rattle.std.proofs.lemmas.Option.{slice_get_read}
-use Rattle.flow_book.specs.declared.flow.Flow.{Flow}
-use Rattle.flow_book.specs.Choice.{IsEligible}
-use Rattle.flow_book.specs.Entry.{live}
-use Rattle.minislots.proofs.Bounds.{bounds_of}
-use Rattle.flow_book.specs.Queue.{IsQueue}
-use Rattle.flow_book.proofs.Order.{all-push}
-use Rattle.flow_book.proofs.Serving.{IsPassed, first-next, none-next, wanted-fits, stands-in, entry-may}
+-- The queue of a book is one of two parts, of which the other is empty.
+use Rattle.flow_book.proofs.Serving.{whole-part, whole-next}
 use Rattle.flow_book.proofs.queue.first_in_turn.Goals as goal
-use Rattle.flow_book.proofs.queue.first_in_turn.Goals.{else-wanted-gt0-via-else-wanted-gt0}
-use Rattle.flow_book.proofs.queue.first_in_turn.Goals.{else-wanted-gt0-via-then-wanted-gt0+else-wanted-room}
-use Rattle.flow_book.proofs.queue.first_in_turn.Goals.{else-wanted-gt0-via-then-wanted-gt0+then-wanted-room+else-has}
 
-same-flow : (f g : Flow) (items : List Flow) (place : ℕ) → slice_get items place ≡ Some f → slice_get items place ≡ Some g
-    → g ≡ f
-same-flow f g items place is also = let e : Some g ≡ Some f = sym also ∙ is in cc
-
-pub has-requires : goal.has-requires
-has-requires c =
-    let w = c.index-queue-index.result in
-    let is =
-    stands-in c.args.config.now c.requires.started.0 c.args.queue.now c.args.start c.loop-index.index w
-    c.requires.started.1 c.loop-index-test.true c.index-queue-index.is in
-    rw (sym is.bucket) (is.keeps.bucket.since c.args.start is.started)
-
-pub returns-then-has-clause-next : goal.returns-then-has-clause-next
-returns-then-has-clause-next c = λ items has.
-    let config = c.args.config.now in
-    let queue = c.args.queue.now in
-    let i = c.loop-index.index in
-    let w = c.index-queue-index.result in
-    let lt = c.loop-index-test.true in
-    let is = stands-in config items queue c.args.start i w has lt c.index-queue-index.is in
-    let able =
-    entry-may config c.args.start c.args.room.slots items w c.min-wanted.result c.has.result c.quantum.ensures.lawful is
-    (omega arith) c.if-wanted-gt0.true (omega (arith, c.requires.room)) c.has.ensures in
-    let split : queue ≡ take i queue ++ w ∷ drop (i + 1) queue =
-    sym (take-append-drop i queue) ∙ ap (λ ws. take i queue ++ ws) (drop_more queue i w lt
-    ∙ ap (λ v. v ∷ drop (i + 1) queue) (sym c.index-queue-index.is)) in
-    record {
-      waiting = w;
-      here = slice_get_read queue (length queue) i w refl lt c.index-queue-index.is;
-      flow = is.flow;
-      at = is.at;
-      next = first-next config c.args.start c.args.room.slots items has.book (take i queue) w (drop (i + 1) queue)
-          is.flow is.at (subst (IsQueue items) split has.order) (c.loop-index.invariant items has)
-          (able.0 c.if-has.true);
-    }
-
-pub loop-index-preserved : goal.loop-index-preserved
-loop-index-preserved c = λ items has.
-    let config = c.args.config.now in
-    let queue = c.args.queue.now in
-    let i = c.loop-index.index in
-    let w = c.index-queue-index.result in
-    let lt = c.loop-index-test.true in
-    let P = IsPassed config c.args.start c.args.room.slots items in
-    let is = stands-in config items queue c.args.start i w has lt c.index-queue-index.is in
-    let lawful = c.quantum.ensures.lawful in
-    let bounds = bounds_of config lawful in
-    let passed : P w = λ g at may.
-    let same = same-flow is.flow g items w.place is.at at in
-    let able : IsEligible config c.args.start c.args.room.slots (live is.flow) =
-    subst (λ h. IsEligible config c.args.start c.args.room.slots (live h)) same may in
-    elim c.else-wanted-gt0.branch [
-      | else-wanted-gt0-via-then-wanted-gt0+then-wanted-room+else-has v ↦ (
-          let t : v.has.result ≡ true =
-          (entry-may config c.args.start c.args.room.slots items w c.min-wanted.result v.has.result lawful is
-          (omega arith) v.if-wanted-gt0.true (omega (arith, c.requires.room)) v.has.ensures).1 able in
-          let no' : v.has.result ≡ false = v.if-has.false in
-          absurd (cc))
-      | else-wanted-gt0-via-then-wanted-gt0+else-wanted-room v ↦ (
-          let fits = wanted-fits config c.args.start c.args.room.slots (live is.flow) lawful able in
-          absurd (omega (arith, fits, is.wants, v.if-wanted-room.false, bounds.cap_least, c.requires.room)))
-      | else-wanted-gt0-via-else-wanted-gt0 v ↦
-          absurd (omega (arith, able.waits, is.wants, v.if-wanted-gt0.false, bounds.quantum_least))
-    ] in
-    subst (AllByRecursion P) (sym (take_more queue i w lt ∙ ap (λ v. take i queue ++ v ∷ []) (sym c.index-queue-index.is)))
-    (all-push P (take i queue) w (c.loop-index.invariant items has) passed)
+pub first_able-requires-clause-started : goal.first_able-requires-clause-started
+first_able-requires-clause-started c = (
+  c.requires.started.0,
+  whole-part c.args.config.now c.requires.started.0 c.args.queue.now c.args.start c.requires.started.1,
+)
 
 pub returns-clause-next : goal.returns-clause-next
 returns-clause-next c = λ items has.
-    let queue = c.args.queue.now in
-    let P = IsPassed c.args.config.now c.args.start c.args.room.slots items in
-    let all : take c.loop-index.index queue ≡ queue = take_all _ _ (omega (arith, c.loop-index-test.false)) in
-    none-next c.args.config.now c.args.start c.args.room.slots items has.book queue has.order
-    (subst (AllByRecursion P) all (c.loop-index.invariant items has))
+    whole-next c.args.config.now items c.args.queue.now c.args.start c.args.room.slots has c.first_able.result
+    (c.first_able.ensures.next items (whole-part c.args.config.now items c.args.queue.now c.args.start has))

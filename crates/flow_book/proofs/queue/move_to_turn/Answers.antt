@@ -46,7 +46,7 @@ returns-in_default c = λ items is. record {
   among = none-out items c.args.queue.now.items c.args.waiting.place
       (none-at c.args.waiting.place c.args.queue.now.items
       (sym (rw c.deref.ensures.value at c.in_default.ensures))) is;
-  is = c.in_ok-put_in_turn.ensures;
+  is = c.in_ok-put_in_turn.ensures.put;
 }
 
 pub put_in_turn-requires-2 : goal.put_in_turn-requires-2
@@ -56,5 +56,5 @@ pub returns : goal.returns
 returns c = λ items is. record {
   others = c.take_out.new.queue.items;
   among = c.take_out.ensures items is;
-  is = c.in_ok-put_in_turn-2.ensures;
+  is = c.in_ok-put_in_turn-2.ensures.put;
 }

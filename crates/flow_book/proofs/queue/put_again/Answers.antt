@@ -9,16 +9,16 @@ use Rattle.flow_book.proofs.queue.put_again.Goals as goal
 
 pub waiting_of-waiting-requires-clause-within : goal.waiting_of-waiting-requires-clause-within
 waiting_of-waiting-requires-clause-within c =
-    (all-item live c.args.flows.now c.args.place c.index-flows-place.result c.requires.within c.index-flows-place.is
+    (all-item live c.args.flows.now c.args.place c.at.result.now c.requires.within c.at.ensures
     (IsSoundFlow c.requires.book.0) c.requires.book.1.sound.each).within
 
 pub returns-then-waiting-gt0 : goal.returns-then-waiting-gt0
 returns-then-waiting-gt0 c =
     let place = c.args.place in
     let items = c.args.flows.now in
-    let f = c.index-flows-place.result in
+    let f = c.at.result.now in
     let before = c.requires.queue in
-    let here = slice_get_read items (length items) place f refl c.requires.within c.index-flows-place.is in
+    let here = slice_get_read items (length items) place f refl c.requires.within c.at.ensures in
     let w = c.waiting_of-waiting in
     let moved = c.in_ok-move_to_turn.ensures before.0 before.2 in
     let others =
@@ -31,9 +31,9 @@ pub returns : goal.returns
 returns c =
     let place = c.args.place in
     let items = c.args.flows.now in
-    let f = c.index-flows-place.result in
+    let f = c.at.result.now in
     let before = c.requires.queue in
-    let here = slice_get_read items (length items) place f refl c.requires.within c.index-flows-place.is in
+    let here = slice_get_read items (length items) place f refl c.requires.within c.at.ensures in
     let others =
     among-others place before.0 items c.take_out.new.queue.items before.1 (c.take_out.ensures before.0 before.2) in
     pass-among c.requires.book.0 items c.requires.book.1 (λ other. other ≢ place) (λ other. Unit {0})

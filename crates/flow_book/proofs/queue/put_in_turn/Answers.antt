@@ -9,8 +9,8 @@ use Rattle.flow_book.proofs.queue.put_in_turn.Goals as goal
 pub place_after-index-requires : goal.place_after-index-requires
 place_after-index-requires c = rw c.deref.ensures.value c.requires
 
-pub returns : goal.returns
-returns c =
+pub returns-clause-put : goal.returns-clause-put
+returns-clause-put c =
     let queue = c.args.queue.now.items in
     let w = c.args.waiting in
     let index : c.place_after-index.result ≡ position_or_len (λ v. nat_lt w.turn v.turn) queue =

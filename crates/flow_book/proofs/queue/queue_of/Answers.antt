@@ -10,9 +10,9 @@ use Rattle.flow_book.proofs.queue.queue_of.Goals.{then-waiting-gt0+in_ok-put_in_
 
 pub waiting_of-waiting-requires-clause-within : goal.waiting_of-waiting-requires-clause-within
 waiting_of-waiting-requires-clause-within c =
-    (all-item live c.args.flows.now c.loop-place.place c.index-flows-place.result
+    (all-item live c.args.flows.now c.loop-place.place c.at.result.now
     (omega (arith, c.loop-place-test.true))
-    c.index-flows-place.is (IsSoundFlow c.requires.0) c.requires.1.sound.each).within
+    c.at.ensures (IsSoundFlow c.requires.0) c.requires.1.sound.each).within
 
 pub put_in_turn-requires : goal.put_in_turn-requires
 put_in_turn-requires c = c.loop-place.invariant.ascending
@@ -28,11 +28,11 @@ pub loop-place-preserved : goal.loop-place-preserved
 loop-place-preserved c =
     let items = c.args.flows.now in
     let i = c.loop-place.place in
-    let f = c.index-flows-place.result in
+    let f = c.at.result.now in
     let here = slice_get_read items (length items) i f refl (omega (arith, c.loop-place-test.true))
-    c.index-flows-place.is in
+    c.at.ensures in
     elim c.if-waiting-gt0.branch [
-      | then-waiting-gt0+in_ok-put_in_turn w ↦ rw (w.queue-is, w.in_ok-put_in_turn.ensures)
+      | then-waiting-gt0+in_ok-put_in_turn w ↦ rw (w.queue-is, w.in_ok-put_in_turn.ensures.put)
           (put-among c.requires.0 items c.requires.1 (λ k. k < i) (λ k. k < i + 1) c.loop-place.queue.items i f here
           (only i) (λ k lt. omega arith) c.loop-place.invariant
           c.waiting_of-waiting.result c.waiting_of-waiting.ensures.place c.waiting_of-waiting.ensures.turn

@@ -11,66 +11,66 @@ use Rattle.flow_book.proofs.book.Book.ask.Goals as goal
 
 pub ask-requires-clause-sum : goal.ask-requires-clause-sum
 ask-requires-clause-sum c =
-    let items = c.self.inside.flows.items in
-    let f = c.index_mut.result.now in
+    let items = c.self.inside.flows in
+    let f = c.at_mut.result.now in
     let is =
     placed c.args.sid items c.place-place.result f (rw (← c.self.view_is) at c.place-place.ensures)
-    c.index_mut.ensures.value in
+    c.at_mut.ensures.value in
     (placed-sums c.self.inside.config c.args.sid items c.place-place.result f c.self.invariant.book is).granted
 
 pub ask-requires-clause-fits : goal.ask-requires-clause-fits
 ask-requires-clause-fits c =
-    let items = c.self.inside.flows.items in
-    let f = c.index_mut.result.now in
+    let items = c.self.inside.flows in
+    let f = c.at_mut.result.now in
     let is =
     placed c.args.sid items c.place-place.result f (rw (← c.self.view_is) at c.place-place.ensures)
-    c.index_mut.ensures.value in
+    c.at_mut.ensures.value in
     rw (← c.self.view_is, is.found) at c.requires.fits
 
 pub follow-self-inside-requires-clause-book : goal.follow-self-inside-requires-clause-book
 follow-self-inside-requires-clause-book c =
-    let items = c.self.inside.flows.items in
-    let f = c.index_mut.result.now in
+    let items = c.self.inside.flows in
+    let f = c.at_mut.result.now in
     let is =
     placed c.args.sid items c.place-place.result f (rw (← c.self.view_is) at c.place-place.ensures)
-    c.index_mut.ensures.value in (
+    c.at_mut.ensures.value in (
       c.self.inside.config,
-      rw (c.deref.ensures.value, c.ask.ensures) (asked-book c.self.inside.config c.args.sid c.args.bytes c.args.heard
+      rw c.ask.ensures (asked-book c.self.inside.config c.args.sid c.args.bytes c.args.heard
           items c.place-place.result f c.self.invariant.book is (rw (← c.self.view_is, is.found) at c.requires.asks)),
     )
 
 pub follow-self-inside-requires-clause-queue : goal.follow-self-inside-requires-clause-queue
 follow-self-inside-requires-clause-queue c = λ known.
-    let items = c.self.inside.flows.items in (
+    let items = c.self.inside.flows in (
       items,
-      rw c.deref.ensures.value (same-but items c.place-place.result _),
+      same-but items c.place-place.result _,
       c.self.invariant.order known,
     )
 
 pub invariant_of-self : goal.invariant_of-self
 invariant_of-self c =
-    let items = c.self.inside.flows.items in
-    let f = c.index_mut.result.now in
+    let items = c.self.inside.flows in
+    let f = c.at_mut.result.now in
     let is =
     placed c.args.sid items c.place-place.result f (rw (← c.self.view_is) at c.place-place.ensures)
-    c.index_mut.ensures.value in
+    c.at_mut.ensures.value in
     record {
       book = rw c.ask.ensures (asked-book c.self.inside.config c.args.sid c.args.bytes c.args.heard items
           c.place-place.result f c.self.invariant.book is (rw (← c.self.view_is, is.found) at c.requires.asks));
-      order = λ known. rw c.deref.ensures.value at (c.follow-self-inside.ensures known);
+      order = λ known. c.follow-self-inside.ensures known;
     }
 
 pub returns : goal.returns
 returns c =
-    let items = c.self.inside.flows.items in
-    let f = c.index_mut.result.now in
+    let items = c.self.inside.flows in
+    let f = c.at_mut.result.now in
     let e = c.ask.new.self in
     let is =
     placed c.args.sid items c.place-place.result f (rw (← c.self.view_is) at c.place-place.ensures)
-    c.index_mut.ensures.value in
+    c.at_mut.ensures.value in
     rw (← c.self.view_is)
     (same-view c.self.inside.config _ _ _ _
     (placed-changed c.args.sid (with_asked c.args.bytes c.args.heard) items c.place-place.result e f
     c.self.invariant.book.sound.ascending is (ap live c.ask.ensures))
     (map-set_same room_in items c.place-place.result e f (ap room_in c.ask.ensures
-    ∙ ap room_in c.index_mut.ensures.value)))
+    ∙ ap room_in c.at_mut.ensures.value)))

@@ -5,10 +5,10 @@ use Rattle.flow_book.proofs.Sums.{placed-sums}
 use Rattle.flow_book.proofs.book.Book.at.Goals as goal
 
 -- it stands at its place
-stands : (c : goal.After-index) → StandsAt c.args.sid c.self.inside.flows.items c.place.result c.index.result.now
+stands : (c : goal.After-at) → StandsAt c.args.sid c.self.inside.flows c.place.result c.at.result.now
 stands c =
-    placed c.args.sid c.self.inside.flows.items c.place.result c.index.result.now
-    (rw (← c.self.view_is) at c.place.ensures) c.index.ensures
+    placed c.args.sid c.self.inside.flows c.place.result c.at.result.now
+    (rw (← c.self.view_is) at c.place.ensures) c.at.ensures
 
 pub returns-clause-found : goal.returns-clause-found
 returns-clause-found c = rw (← c.self.view_is) (stands c).found
@@ -16,11 +16,11 @@ returns-clause-found c = rw (← c.self.view_is) (stands c).found
 pub returns-clause-sound : goal.returns-clause-sound
 returns-clause-sound c =
     rw (← c.self.view_is)
-    (placed-is_sound c.self.inside.config c.args.sid c.self.inside.flows.items c.place.result c.index.result.now
+    (placed-is_sound c.self.inside.config c.args.sid c.self.inside.flows c.place.result c.at.result.now
     c.self.invariant.book.sound (stands c))
 
 pub returns-clause-sums : goal.returns-clause-sums
 returns-clause-sums c =
     rw (← c.self.view_is)
-    (placed-sums c.self.inside.config c.args.sid c.self.inside.flows.items c.place.result c.index.result.now
+    (placed-sums c.self.inside.config c.args.sid c.self.inside.flows c.place.result c.at.result.now
     c.self.invariant.book (stands c))

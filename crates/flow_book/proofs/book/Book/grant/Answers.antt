@@ -1,20 +1,21 @@
 -- The flow in its place has one grant more, for which there was room.
 use Rattle.std.proofs.Common.{◌∙◌, ap, arith}
 use Rattle.flow_book.specs.Flows.{LiveFlow, with_grant}
+use Rattle.flow_book.proofs.Periods.{since-started}
 use Rattle.flow_book.proofs.Places.{StandsAt, placed}
 use Rattle.flow_book.proofs.Changes.{placed-changed, placed-is_sound}
 use Rattle.flow_book.proofs.Sums.{placed-sums, granted-book}
 use Rattle.flow_book.proofs.Queues.{same-but}
 use Rattle.flow_book.proofs.Rooms.{room-placed, room-replaced, room-others}
 use Rattle.flow_book.proofs.book.Book.grant.Goals as goal
-use Rattle.flow_book.proofs.book.Book.grant.Goals.{After-index_mut}
+use Rattle.flow_book.proofs.book.Book.grant.Goals.{After-at_mut}
 
 -- the flow stands at its place before the grant
-found : (c : goal.After-index_mut)
-    → StandsAt c.args.sid c.self.inside.flows.items c.place-place.result c.index_mut.result.now
+found : (c : goal.After-at_mut)
+    → StandsAt c.args.sid c.self.inside.flows c.place-place.result c.at_mut.result.now
 found c =
-    placed c.args.sid c.self.inside.flows.items c.place-place.result c.index_mut.result.now
-    (rw (← c.self.view_is) at c.place-place.ensures) c.index_mut.ensures.value
+    placed c.args.sid c.self.inside.flows c.place-place.result c.at_mut.result.now
+    (rw (← c.self.view_is) at c.place-place.ensures) c.at_mut.ensures.value
 
 pub grant-requires-clause-room : goal.grant-requires-clause-room
 grant-requires-clause-room c =
@@ -23,8 +24,8 @@ grant-requires-clause-room c =
 
 pub grant-requires-clause-asked : goal.grant-requires-clause-asked
 grant-requires-clause-asked c =
-    let items = c.self.inside.flows.items in
-    let f = c.index_mut.result.now in
+    let items = c.self.inside.flows in
+    let f = c.at_mut.result.now in
     let is = found c in
     let may = rw (← c.self.view_is, is.found) at c.requires.lawful in
     let sound =
@@ -36,59 +37,60 @@ pub grant-requires-clause-since : goal.grant-requires-clause-since
 grant-requires-clause-since c =
     let is = found c in
     let started = rw (← c.self.view_is, is.found) at c.requires.started in
-    (placed-sums c.self.inside.config c.args.sid c.self.inside.flows.items c.place-place.result c.index_mut.result.now
-    c.self.invariant.book is).bucket.since c.args.start started
+    since-started c.self.inside.config c.at_mut.result.now c.args.start
+    (placed-sums c.self.inside.config c.args.sid c.self.inside.flows c.place-place.result c.at_mut.result.now
+    c.self.invariant.book is) started
 
 pub follow-self-inside-requires-clause-book : goal.follow-self-inside-requires-clause-book
 follow-self-inside-requires-clause-book c =
     let config = c.self.inside.config in
-    let items = c.self.inside.flows.items in
-    let f = c.index_mut.result.now in
+    let items = c.self.inside.flows in
+    let f = c.at_mut.result.now in
     let is =
     placed c.args.sid items c.place-place.result f (rw (← c.self.view_is) at c.place-place.ensures)
-    c.index_mut.ensures.value in
+    c.at_mut.ensures.value in
     let may = rw (← c.self.view_is, is.found) at c.requires.lawful in
     let started = rw (← c.self.view_is, is.found) at c.requires.started in (
       config,
-      rw c.deref.ensures.value (granted-book config c.args.sid c.args.start c.args.bytes _ items c.place-place.result
+      granted-book config c.args.sid c.args.start c.args.bytes _ items c.place-place.result
           c.grant.new.self f c.self.invariant.book is c.grant.ensures.live may
-          (λ keeps kept. c.grant.ensures.sums config keeps started kept)),
+          (λ keeps kept. c.grant.ensures.sums config keeps started kept),
     )
 
 pub follow-self-inside-requires-clause-queue : goal.follow-self-inside-requires-clause-queue
 follow-self-inside-requires-clause-queue c = λ known.
-    let items = c.self.inside.flows.items in (
+    let items = c.self.inside.flows in (
       items,
-      rw c.deref.ensures.value (same-but items c.place-place.result c.grant.new.self),
+      same-but items c.place-place.result c.grant.new.self,
       c.self.invariant.order known,
     )
 
 -- and after it
 stands : (c : goal.After-self-2-1)
-    → StandsAt c.args.sid c.self.inside.flows.items c.place-place.result c.index_mut.result.now
+    → StandsAt c.args.sid c.self.inside.flows c.place-place.result c.at_mut.result.now
 stands c =
-    placed c.args.sid c.self.inside.flows.items c.place-place.result c.index_mut.result.now
-    (rw (← c.self.view_is) at c.place-place.ensures) c.index_mut.ensures.value
+    placed c.args.sid c.self.inside.flows c.place-place.result c.at_mut.result.now
+    (rw (← c.self.view_is) at c.place-place.ensures) c.at_mut.ensures.value
 
 pub invariant_of-self : goal.invariant_of-self
 invariant_of-self c =
     let config = c.self.inside.config in
-    let items = c.self.inside.flows.items in
+    let items = c.self.inside.flows in
     let is = stands c in
     let may = rw (← c.self.view_is, is.found) at c.requires.lawful in
     let started = rw (← c.self.view_is, is.found) at c.requires.started in
     record {
       book = granted-book config c.args.sid c.args.start c.args.bytes _ items c.place-place.result c.grant.new.self
-          c.index_mut.result.now c.self.invariant.book is c.grant.ensures.live may
+          c.at_mut.result.now c.self.invariant.book is c.grant.ensures.live may
           (λ keeps kept. c.grant.ensures.sums config keeps started kept);
-      order = λ known. rw c.deref.ensures.value at (c.follow-self-inside.ensures known);
+      order = λ known. c.follow-self-inside.ensures known;
     }
 
 pub returns-clause-flows : goal.returns-clause-flows
 returns-clause-flows c =
     rw (← c.self.view_is)
     (placed-changed c.args.sid (with_grant (record { start = c.args.start; bytes = c.args.bytes }))
-    c.self.inside.flows.items c.place-place.result c.grant.new.self c.index_mut.result.now
+    c.self.inside.flows c.place-place.result c.grant.new.self c.at_mut.result.now
     c.self.invariant.book.sound.ascending (stands c) c.grant.ensures.live)
 
 pub returns-clause-room : goal.returns-clause-room
@@ -98,8 +100,8 @@ returns-clause-room c =
     rw (
       ← c.self.view_is,
       room-placed _ _ _ _ is,
-      room-replaced c.args.sid c.self.inside.flows.items
-          c.place-place.result c.grant.new.self c.index_mut.result.now is same,
+      room-replaced c.args.sid c.self.inside.flows
+          c.place-place.result c.grant.new.self c.at_mut.result.now is same,
     ) (omega (arith, c.grant.ensures.room))
 
 pub returns-clause-other_room : goal.returns-clause-other_room
@@ -107,5 +109,5 @@ returns-clause-other_room c = λ other differ.
     let is = stands c in
     let same = ap (λ (g : LiveFlow). g.sid) c.grant.ensures.live ∙ is.here in
     rw (← c.self.view_is)
-    (room-others c.args.sid c.self.inside.flows.items c.place-place.result c.grant.new.self c.index_mut.result.now
-    c.index_mut.ensures.value is same other differ)
+    (room-others c.args.sid c.self.inside.flows c.place-place.result c.grant.new.self c.at_mut.result.now
+    c.at_mut.ensures.value is same other differ)

@@ -11,16 +11,16 @@ use Rattle.flow_book.proofs.book.Book.remove.Goals as goal
 
 -- the flows of other SIDs
 left : (c : goal.After-leave)
-    → c.remove.new.self.items ≡ filter (λ (f : Flow). not (f.sid == c.args.sid)) c.self.inside.flows.items
+    → c.remove.new.self ≡ filter (λ (f : Flow). not (f.sid == c.args.sid)) c.self.inside.flows
 left c =
-    let items = c.self.inside.flows.items in
+    let items = c.self.inside.flows in
     let stands = rw (← c.self.view_is) at c.place-place.ensures in
-    c.remove.ensures.items
+    c.remove.ensures
     ∙ sym (filter-at c.args.sid items c.place-place.result c.self.invariant.book.sound.ascending stands).1
 
 pub invariant_of-self : goal.invariant_of-self
 invariant_of-self c =
-    let items = c.self.inside.flows.items in
+    let items = c.self.inside.flows in
     let sound : IsSoundBook c.self.inside.config (map live (filter (λ (f : Flow). not (f.sid == c.args.sid)) items)) =
     rw (map-filter live (λ (f : LiveFlow). not (f.sid == c.args.sid)) items)
     (sound-filter c.self.inside.config (λ f. not (f.sid == c.args.sid)) (map live items) c.self.invariant.book.sound) in
@@ -38,13 +38,13 @@ invariant_of-self c =
 
 pub returns-clause-removed : goal.returns-clause-removed
 returns-clause-removed c =
-    let items = c.self.inside.flows.items in
+    let items = c.self.inside.flows in
     rw (← c.self.view_is)
     (ap (map live) (left c) ∙ map-filter live (λ (f : LiveFlow). not (f.sid == c.args.sid)) items)
 
 pub returns-clause-room : goal.returns-clause-room
 returns-clause-room c = λ other differ.
-    let items = c.self.inside.flows.items in
+    let items = c.self.inside.flows in
     let rooms = ap (map room_in) (left c) ∙ map-filter room_in (λ (r : Room). not (r.sid == c.args.sid)) items in
     rw (← c.self.view_is)
     (ap (room_of other) rooms ∙ ap room-found (room-filter c.args.sid other (map room_in items) differ))

@@ -1,7 +1,7 @@
 -- A grant is taken exactly where the level has its bytes.
-use Rattle.std.proofs.Common.{refl, ap, ◌*◌, ◌<◌, ◌≤◌, arith}
+use Rattle.std.proofs.Common.{refl, ap, ◌-◌, ◌*◌, ◌<◌, ◌≤◌, arith}
 use Rattle.flow_book.specs.Bucket.{BucketView, level_of}
-use Rattle.flow_book.proofs.Buckets.{kept-more, has-more, spent-stands}
+use Rattle.flow_book.proofs.Buckets.{kept-more, has-more, spent-stands, settled-spent}
 use Rattle.flow_book.proofs.bucket.Bucket.take.Goals as goal
 
 pub returns-then-level-wanted-clause-exact : goal.returns-then-level-wanted-clause-exact
@@ -35,3 +35,11 @@ returns-clause-taken c = λ yes' channel rate burst grants stands started.
       ap (λ (b : BucketView). b.per_slot) c.self.view_is,
       ap (λ (b : BucketView). b.full) c.self.view_is,
     ) all
+
+pub returns-clause-settled : goal.returns-clause-settled
+returns-clause-settled c = λ yes' grants is started.
+    let some : 0 < c.args.self.now.per_slot = rw (← c.self.view_is) (omega arith) in
+    let all = settled-spent c.args.self.now grants c.args.slot c.args.bytes
+    (c.level-level.result - 1280000 * c.from-wanted.result) some
+    (omega (arith, c.level-level.ensures)) started in
+    rw (ap (λ (b : BucketView). b.per_slot) c.self.view_is, ap (λ (b : BucketView). b.full) c.self.view_is) all

@@ -1,7 +1,7 @@
 -- The level has the bytes that are taken, and what is left of it is its remainder where they are fewer than the limit.
-use Rattle.std.proofs.Common.{◌≡◌, ap, ◌-◌, ◌*◌, ◌%◌, ◌≤◌, arith}
+use Rattle.std.proofs.Common.{◌≡◌, ap, ◌-◌, ◌*◌, ◌%◌, ◌<◌, ◌≤◌, arith}
 use Rattle.flow_book.specs.Bucket.{BucketView, level_of}
-use Rattle.flow_book.proofs.Buckets.{spent-stands}
+use Rattle.flow_book.proofs.Buckets.{spent-stands, settled-spent}
 use Rattle.flow_book.proofs.bucket.Bucket.take_most.Goals as goal
 
 pub returns-then-most-level-clause-taken : goal.returns-then-most-level-clause-taken
@@ -29,3 +29,20 @@ returns-clause-taken c = λ channel rate burst grants stands started.
       ap (λ (b : BucketView). b.per_slot) c.self.view_is,
       ap (λ (b : BucketView). b.full) c.self.view_is,
     ) all
+
+pub returns-then-most-level-clause-settled : goal.returns-then-most-level-clause-settled
+returns-then-most-level-clause-settled c = λ grants is started.
+    let some : 0 < c.args.self.now.per_slot = rw (← c.self.view_is) (omega arith) in
+    let all =
+    settled-spent c.args.self.now grants c.args.slot c.args.limit
+    (c.level-level.result - 1280000 * c.from-most.result) some
+    (omega (arith, c.level-level.ensures)) started in
+    rw (ap (λ (b : BucketView). b.per_slot) c.self.view_is, ap (λ (b : BucketView). b.full) c.self.view_is) all
+
+pub returns-clause-settled : goal.returns-clause-settled
+returns-clause-settled c = λ grants is started.
+    let some : 0 < c.args.self.now.per_slot = rw (← c.self.view_is) (omega arith) in
+    let all =
+    settled-spent c.args.self.now grants c.args.slot c.bytes_of.result (c.level-level.result % 1280000) some
+    (omega (arith, c.level-level.ensures)) started in
+    rw (ap (λ (b : BucketView). b.per_slot) c.self.view_is, ap (λ (b : BucketView). b.full) c.self.view_is) all

@@ -15,27 +15,27 @@ loop-self-init c =
       left-all d.overlay.config c.args.spots.now d.offset c.requires.placed (omega (arith, has.after.ends)),
     )
 
-pub next-next-requires-clause-placed : goal.next-next-requires-clause-placed
-next-next-requires-clause-placed c = rw c.loop-self.invariant.1.config c.loop-self.invariant.2.placed
+pub next-requires-clause-placed : goal.next-requires-clause-placed
+next-requires-clause-placed c = rw c.loop-self.invariant.1.config c.loop-self.invariant.2.placed
 
-pub next-next-requires-clause-ahead : goal.next-next-requires-clause-ahead
-next-next-requires-clause-ahead c = c.loop-self.invariant.2.ahead
+pub next-requires-clause-ahead : goal.next-requires-clause-ahead
+next-requires-clause-ahead c = c.loop-self.invariant.2.ahead
 
 pub put_allocation-requires-clause-length : goal.put_allocation-requires-clause-length
 put_allocation-requires-clause-length c =
     let d = c.args.self.now in
     let demand = demand_at d.overlay.flows c.args.spots.now c.args.waiting.now d.start in
-    chosen-length d.overlay.config demand c.loop-self.left.now c.loop-self.invariant.0 c.next-next.result
-    c.loop-self.self c.next-next.new.self c.requires.placed c.loop-self.invariant.1 c.loop-self.invariant.2
-    c.next-next.ensures
+    chosen-length d.overlay.config demand c.loop-self.left.now c.loop-self.invariant.0 c.in_ok-next.next
+    c.loop-self.self c.next.new.self c.requires.placed c.loop-self.invariant.1 c.loop-self.invariant.2
+    c.in_ok-next.ensures
 
 pub put_allocation-requires-clause-fits : goal.put_allocation-requires-clause-fits
 put_allocation-requires-clause-fits c =
     let d = c.args.self.now in
     let demand = demand_at d.overlay.flows c.args.spots.now c.args.waiting.now d.start in
-    let fits = chosen-fits d.overlay.config demand c.loop-self.left.now c.loop-self.invariant.0 c.next-next.result
-    c.loop-self.self c.next-next.new.self c.requires.placed c.loop-self.invariant.1 c.loop-self.invariant.2
-    c.next-next.ensures in
+    let fits = chosen-fits d.overlay.config demand c.loop-self.left.now c.loop-self.invariant.0 c.in_ok-next.next
+    c.loop-self.self c.next.new.self c.requires.placed c.loop-self.invariant.1 c.loop-self.invariant.2
+    c.in_ok-next.ensures in
     omega (arith, fits, (bounds_of _ c.requires.unfilled.ready.lawful).frame_most)
 
 pub loop-self-preserved : goal.loop-self-preserved
@@ -45,12 +45,12 @@ loop-self-preserved c =
     let plan = c.loop-self.invariant.0 in
     let left = c.loop-self.left.now in (
       _,
-      chosen-plan d.overlay.config demand left plan c.next-next.result c.loop-self.self c.next-next.new.self
-          c.requires.placed c.loop-self.invariant.1 c.loop-self.invariant.2 c.next-next.ensures
+      chosen-plan d.overlay.config demand left plan c.in_ok-next.next c.loop-self.self c.next.new.self
+          c.requires.placed c.loop-self.invariant.1 c.loop-self.invariant.2 c.in_ok-next.ensures
           c.put_allocation.new.self c.in_ok-put_allocation.ensures,
       rw c.left_at-left.ensures
-          (chosen-left d.overlay.config demand left plan c.next-next.result c.loop-self.self c.next-next.new.self
-          c.requires.placed c.loop-self.invariant.1 c.loop-self.invariant.2 c.next-next.ensures
+          (chosen-left d.overlay.config demand left plan c.in_ok-next.next c.loop-self.self c.next.new.self
+          c.requires.placed c.loop-self.invariant.1 c.loop-self.invariant.2 c.in_ok-next.ensures
           c.put_allocation.new.self c.in_ok-put_allocation.ensures),
     )
 

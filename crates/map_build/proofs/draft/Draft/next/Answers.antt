@@ -36,8 +36,8 @@ serve-requires c =
     let same = c.in_default-meet.ensures.0 in
     record { ready = (c.args.waiting.now, rw same c.requires.ready, rw same c.requires.most) }
 
-pub returns-in-Some-serve : goal.returns-in-Some-serve
-returns-in-Some-serve c =
+pub returns-in-Some-2 : goal.returns-in-Some-2
+returns-in-Some-2 c =
     let d = c.args.self.now in
     let stop : c.next_stop.result ≡ next_stop d.overlay.config c.args.spots.now d.offset =
     rw c.config.ensures.value at c.next_stop.ensures.value in
@@ -45,8 +45,8 @@ returns-in-Some-serve c =
     let behind = stop-behind d.overlay.config c.args.spots.now d.offset c.requires.inside none in
     let unmet = c.in_default-meet.ensures in
     Chooses-grant c.args.spots.now c.args.waiting.now (c.next_stop.result - d.offset) d (ap (λ n. n - d.offset) stop)
-    (omega (arith, stop, behind)) c.requires.waiting c.requires.ready.marks c.in-Some-serve.grant c.serve.new.self
-    unmet.1 (bounds_of _ c.requires.ready.lawful).bursts (rw unmet.0 at (c.in-Some-serve.ensures
+    (omega (arith, stop, behind)) c.requires.waiting c.requires.ready.marks c.in-Some-2.grant c.serve.new.self
+    unmet.1 (bounds_of _ c.requires.ready.lawful).bursts (rw (c.in-Some-2.is, unmet.0) at (c.in_ok-grant.ensures
     c.args.waiting.now (rw unmet.0 c.requires.ready) (rw unmet.0 c.requires.most)))
 
 pub returns : goal.returns
@@ -58,7 +58,8 @@ returns c =
     let behind = stop-behind d.overlay.config c.args.spots.now d.offset c.requires.inside none in
     let unmet = c.in_default-meet.ensures in
     let served =
-    c.in_default-serve.ensures c.args.waiting.now (rw unmet.0 c.requires.ready) (rw unmet.0 c.requires.most) in
+    rw c.in_default-2.is at (c.in_ok-grant.ensures c.args.waiting.now (rw unmet.0 c.requires.ready)
+    (rw unmet.0 c.requires.most)) in
     let same : c.serve.new.self ≡ d = served.0 ∙ unmet.0 in
     rw same
     (Chooses-idle c.args.spots.now c.args.waiting.now (c.next_stop.result - d.offset) d (ap (λ n. n - d.offset) stop)

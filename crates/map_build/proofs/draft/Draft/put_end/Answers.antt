@@ -1,11 +1,9 @@
 -- Behind the Null stand the pending grants of the flows that are shown.
-use Rattle.std.proofs.Common.{◌∙◌, ap, map, List}
-use Rattle.flow_book.specs.declared.shown.Pending.{Pending}
+use Rattle.std.proofs.Common.{◌∙◌}
 use Rattle.map_build.proofs.Pendings.{ends-pending}
 use Rattle.map_build.proofs.draft.Draft.put_end.Goals as goal
 
 pub returns-clause-ends : goal.returns-clause-ends
 returns-clause-ends c =
-    let sids = λ (ps : List Pending). map (λ (p : Pending). p.sid) ps in
-    ends-pending c.args.self.now c.put.new.self c.put_pending.new.self (sids c.deref.result.now) c.requires.full
-    c.in_ok-put.ensures (ap sids c.deref.ensures.value ∙ c.in_ok-shown.ensures.pending) c.in_ok-put_pending.ensures
+    ends-pending c.args.self.now c.put.new.self c.put_pending.new.self c.deref.result.now c.requires.full
+    c.in_ok-put.ensures (c.deref.ensures.value ∙ c.in_ok-shown.ensures.pending) c.in_ok-put_pending.ensures

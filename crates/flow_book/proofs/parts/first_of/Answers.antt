@@ -1,0 +1,60 @@
+-- The first of those served before the first of the queue is next, and else that is.
+use Rattle.std.proofs.Common.{Some, None}
+use Rattle.flow_book.proofs.InParts.{queued-part, served-part, again-next, queued-next}
+use Rattle.flow_book.proofs.parts.first_of.Goals as goal
+
+pub first_able-queued-requires-clause-started : goal.first_able-queued-requires-clause-started
+first_able-queued-requires-clause-started c = (
+  c.requires.started.0,
+  queued-part c.args.config.now c.requires.started.0 c.args.queue.now c.args.served.now c.args.start c.args.room.slots
+      c.requires.started.1,
+)
+
+pub ahead_of-ahead-requires-clause-ascending : goal.ahead_of-ahead-requires-clause-ascending
+ahead_of-ahead-requires-clause-ascending c = c.requires.started.1.order.served_ones.ascending
+
+pub first_able-requires-clause-started : goal.first_able-requires-clause-started
+first_able-requires-clause-started c = (
+  c.requires.started.0,
+  served-part c.args.config.now c.requires.started.0 c.args.queue.now c.args.served.now c.args.start c.args.room.slots
+      c.requires.started.1 c.ahead_of-ahead.result,
+)
+
+pub returns-in-Some-clause-next : goal.returns-in-Some-clause-next
+returns-in-Some-clause-next c = λ items has.
+    let config = c.args.config.now in
+    let queue = c.args.queue.now in
+    let served = c.args.served.now in
+    let start = c.args.start in
+    let room = c.args.room.slots in
+    let ahead = c.ahead_of-ahead.result in
+    again-next config items queue served start room has ahead c.in-Some.index c.first_able-queued.result
+    (c.first_able-queued.ensures.next items (queued-part config items queue served start room has))
+    c.ahead_of-ahead.ensures.ahead
+    (c.in-Some.ensures.next items (served-part config items queue served start room has ahead))
+
+pub returns-in-Some-queued-clause-next : goal.returns-in-Some-queued-clause-next
+returns-in-Some-queued-clause-next c = λ items has.
+    let config = c.args.config.now in
+    let queue = c.args.queue.now in
+    let served = c.args.served.now in
+    let start = c.args.start in
+    let room = c.args.room.slots in
+    let ahead = c.ahead_of-ahead.result in
+    queued-next config items queue served start room has ahead (Some c.in-Some-queued.index)
+    (c.in-Some-queued.ensures.next items (queued-part config items queue served start room has))
+    (rw c.in-Some-queued.is at c.ahead_of-ahead.ensures.ahead)
+    (c.in_default.ensures.next items (served-part config items queue served start room has ahead))
+
+pub returns-in-None-clause-next : goal.returns-in-None-clause-next
+returns-in-None-clause-next c = λ items has.
+    let config = c.args.config.now in
+    let queue = c.args.queue.now in
+    let served = c.args.served.now in
+    let start = c.args.start in
+    let room = c.args.room.slots in
+    let ahead = c.ahead_of-ahead.result in
+    queued-next config items queue served start room has ahead None
+    (c.in-None.ensures.next items (queued-part config items queue served start room has))
+    (rw c.in-None.is at c.ahead_of-ahead.ensures.ahead)
+    (c.in_default.ensures.next items (served-part config items queue served start room has ahead))
