@@ -12,8 +12,10 @@ use Rattle.flow_book.proofs.Steps.{all-item, taken-item}
 use Rattle.periodic.specs.declared.TheConstants.{MAX_SPOTS}
 use Rattle.periodic.specs.declared.bits.Bits.{Bits}
 use Rattle.periodic.specs.declared.spots.PlacedFlow.{PlacedFlow}
-use Rattle.periodic.specs.Placement.{Placed, starts_in, spot_at, spots_of, spots_in}
+use Rattle.periodic.specs.Placement.{Placed, starts_in, spot_at, spots_of}
+use Rattle.periodic.specs.Placement.{due_starts, due_at, due_of, due_in}
 use Rattle.periodic.specs.Table.{IsSoundPlaced}
+use Rattle.periodic.proofs.Resting.{due-few}
 use Rattle.periodic.specs.Fields.{placed_of, KeepsTimes, IsSoundFlow, AreSoundFlows, AreSoundFields}
 
 -- the flows of a sound table are sound
@@ -22,7 +24,7 @@ pub sound-flows : (c : Config) (flows : List PlacedFlow) (rows : List Bits) (mos
 sound-flows c flows rows most counts grants are = record {
   each = are.sound.each;
   times = are.times;
-  few = are.sound.few;
+  few = λ k. omega (arith, are.sound.few k, due-few c k (map placed_of flows));
 }
 
 -- one of them is
@@ -36,33 +38,33 @@ sound-flow c flows i f within is each times = record {
 
 -- the spots of one flow more are written behind those before it
 pub spots-more : (c : Config) (k : ℕ) (placed : List Placed) (f : Placed)
-    → spots_in c k (placed ++ f ∷ []) ≡ spots_in c k placed ++ spots_of c k f
+    → due_in c k (placed ++ f ∷ []) ≡ due_in c k placed ++ due_of c k f
 spots-more c k placed f =
-    flat_map-append (spots_of c k) placed (f ∷ []) ∙ ap (λ ss. spots_in c k placed ++ ss) (append-nil (spots_of c k f))
+    flat_map-append (due_of c k) placed (f ∷ []) ∙ ap (λ ss. due_in c k placed ++ ss) (append-nil (due_of c k f))
 
 -- the spots of the first flows are no more than those of all
 front-few : (c : Config) (k : ℕ) (flows : List PlacedFlow) (n : ℕ)
-    → length (spots_in c k (map placed_of (take n flows))) ≤ length (spots_in c k (map placed_of flows))
+    → length (due_in c k (map placed_of (take n flows))) ≤ length (due_in c k (map placed_of flows))
 front-few c k flows n =
     let front = map placed_of (take n flows) in
     let back = map placed_of (drop n flows) in
     let parts : map placed_of flows ≡ front ++ back =
     sym (ap (map placed_of) (take-append-drop n flows)) ∙ map-append placed_of (take n flows) (drop n flows) in
-    let whole : spots_in c k (map placed_of flows) ≡ spots_in c k front ++ spots_in c k back =
-    ap (spots_in c k) parts ∙ flat_map-append (spots_of c k) front back in
-    let long = length-append (spots_in c k front) (spots_in c k back) in
+    let whole : due_in c k (map placed_of flows) ≡ due_in c k front ++ due_in c k back =
+    ap (due_in c k) parts ∙ flat_map-append (due_of c k) front back in
+    let long = length-append (due_in c k front) (due_in c k back) in
     omega (arith, ap length whole, long)
 
 -- there is room for them
 pub spots-room : (c : Config) (k : ℕ) (flows : List PlacedFlow) (i : ℕ) (f : PlacedFlow) → i < length flows
     → f ≡ get_or flows i f → AreSoundFlows c flows
-    → length (spots_in c k (map placed_of (take i flows))) + length (spots_of c k (placed_of f)) ≤ MAX_SPOTS
+    → length (due_in c k (map placed_of (take i flows))) + length (due_of c k (placed_of f)) ≤ MAX_SPOTS
 spots-room c k flows i f within is are =
     let taken = taken-item placed_of flows i f within is in
     let front = front-few c k flows (i + 1) in
     let more = ap length (spots-more c k (map placed_of (take i flows)) (placed_of f)) in
-    let both = length-append (spots_in c k (map placed_of (take i flows))) (spots_of c k (placed_of f)) in
-    let same = ap (λ gs. length (spots_in c k gs)) taken in
+    let both = length-append (due_in c k (map placed_of (take i flows))) (due_of c k (placed_of f)) in
+    let same = ap (λ gs. length (due_in c k gs)) taken in
     omega (arith, front, more, both, same, are.few k)
 
 -- one spot more is written behind those before it
@@ -94,3 +96,14 @@ pub count-here : (c : Config) (place : ℕ) (f : Placed) → place < c.cycle
     → length (spots_of c place f) ≡ length (starts_in c f.spec f.placement place)
 count-here c place f within =
     ap length (spots-here c place f within) ∙ length-map (starts_in c f.spec f.placement place) (spot_at c f)
+
+-- what a flow is to have of a frame of the cycle is one spot for each start that is due there
+pub due-here : (c : Config) (place : ℕ) (f : Placed) → place < c.cycle
+    → due_of c place f ≡ map (due_at c f) (due_starts c f place)
+due-here c place f within = ap (λ n. map (due_at c f) (due_starts c f n)) (mod-eq_of_lt within)
+
+-- as many as these
+pub count-due : (c : Config) (place : ℕ) (f : Placed) → place < c.cycle
+    → length (due_of c place f) ≡ length (due_starts c f place)
+count-due c place f within =
+    ap length (due-here c place f within) ∙ length-map (due_starts c f place) (due_at c f)

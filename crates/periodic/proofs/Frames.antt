@@ -10,6 +10,7 @@ use Rattle.minislots.proofs.Bounds.{bounds_of}
 use Rattle.sched_calls.specs.FlowSpec.{interval_frames, jitter_slots, periodic_slots, grants_of}
 use Rattle.periodic.specs.declared.placement.Spot.{Spot}
 use Rattle.periodic.specs.Placement.{Placed, phase_of, offset_of, starts_in, spot_at, spots_of, spots_in}
+use Rattle.periodic.specs.Placement.{due_starts, due_at, due_of}
 use Rattle.periodic.specs.Placement.{IsLawfulStart, FollowFrom, HasLawfulStarts}
 use Rattle.periodic.specs.Table.{IsSoundPlaced, IsWithinFrame, IsApart, AreApart}
 use Rattle.periodic.proofs.Parameters.{places_of}
@@ -101,6 +102,10 @@ spots_of-apart c k f spots lawful starts =
 -- in a frame a flow has the spots of the frame's place in the cycle
 pub spots_of-place : (c : Config) (k : ℕ) (f : Placed) → spots_of c (k % c.cycle) f ≡ spots_of c k f
 spots_of-place c k f = ap (λ n. map (spot_at c f) (starts_in c f.spec f.placement n)) (mod-mod k c.cycle)
+
+-- and is to have the same
+pub due_of-place : (c : Config) (k : ℕ) (f : Placed) → due_of c (k % c.cycle) f ≡ due_of c k f
+due_of-place c k f = ap (λ n. map (due_at c f) (due_starts c f n)) (mod-mod k c.cycle)
 
 -- a frame has the spots of its place in the cycle
 pub spots_in-place : (c : Config) (k : ℕ) (placed : List Placed) → spots_in c (k % c.cycle) placed ≡ spots_in c k placed

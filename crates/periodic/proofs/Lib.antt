@@ -27,3 +27,6 @@ pub mod Marking
 pub mod Standing
 pub mod Bounding
 pub mod Counting
+pub mod Resting
+pub mod Rests
+pub mod Told

@@ -1,17 +1,17 @@
 //! The placements of a channel's periodic flows in the cycle of frames.
 
-ghost use Rattle.std.specs.Prelude.{◌≡◌, ℕ, ◌+◌, ◌<◌, ◌==◌, nat_lt, position, ◌≤◌, ◌^◌, ◌%◌, ◌↔◌, []};
+ghost use Rattle.std.specs.Prelude.{◌≡◌, ℕ, ◌+◌, ◌<◌, ◌==◌, nat_lt, position, find, ◌≤◌, ◌^◌, ◌%◌, ◌↔◌, []};
 ghost use Rattle.std.specs.Prelude.{length, take, drop, true, false, None, IfOk, OnErr, IsErrOf, IfSome, IfNone};
 ghost use Rattle.std.specs.List.{AllByRecursion};
 ghost use Rattle.std.specs.List.Sorted.{IsPermutation};
 ghost use Rattle.sched_calls.specs.FlowSpec.{is_periodic, grants_of, first_fault};
 ghost use Rattle.periodic.specs.declared.TheConstants.{MAX_SPOTS, MAX_STARTS};
-ghost use Rattle.periodic.specs.Placement.{spots_in, IsPlacement, NoPlacement};
+ghost use Rattle.periodic.specs.Placement.{due_in, IsPlacement, NoPlacement};
 ghost use Rattle.periodic.specs.Choice.{IsChosen};
 ghost use Rattle.periodic.specs.Fields.{placement_at};
 ghost use Rattle.periodic.specs.Search.{chosen_placement};
 ghost use Rattle.periodic.specs.Table.{placed_grants, IsPlaced, IsNotPlaced, HasPlacement, placed_at, with_placed};
-ghost use Rattle.periodic.specs.Table.{without, AreSound, IsWithinFrame, FollowInTurn};
+ghost use Rattle.periodic.specs.Table.{without, with_rest, HasRoomToPoll, AreSound, IsWithinFrame, FollowInTurn};
 
 use crate::MAX_SPOTS;
 use crate::adopt::is_lawful;
@@ -206,11 +206,42 @@ impl Table {
         self.flows.retain(|flow| flow.sid != sid);
     }
 
-    /// Writes what the placed flows take of frame `k`, in the order of their offsets, and answers how
-    /// many spots these are. The rest of the array stays.
+    /// Lets a placed flow rest: in each frame it is then to have one poll, at the first of its starts there, in the place
+    /// of what it takes. Its placement stays. Its grants have room for a poll. Takes no memory.
+    pub fn rest(&mut self, sid: u16)
+        requires placed { IsPlaced sid self.old.placed }
+        requires room { IfSome (find (λ f. f.sid == sid) self.old.placed) (HasRoomToPoll self.old.config) }
+        ensures { self.new ≡ record self.old { placed = with_rest sid true self.old.placed } }
+    {
+        self.set_rest(sid, true);
+    }
+
+    /// Wakes a placed flow: it is to have again what it takes. Takes no memory.
+    pub fn wake(&mut self, sid: u16)
+        requires { IsPlaced sid self.old.placed }
+        ensures { self.new ≡ record self.old { placed = with_rest sid false self.old.placed } }
+    {
+        self.set_rest(sid, false);
+    }
+
+    // Notes whether a placed flow rests.
+    fn set_rest(&mut self, sid: u16, rests: bool)
+        requires placed { IsPlaced sid self.old.placed }
+        requires room { rests ≡ true
+            → IfSome (find (λ f. f.sid == sid) self.old.placed) (HasRoomToPoll self.old.config) }
+        ensures { self.new ≡ record self.old { placed = with_rest sid rests self.old.placed } }
+    {
+        if let Some(place) = place_of(&self.flows, sid) {
+            self.flows[place].rests = rests;
+        }
+    }
+
+    /// Writes what the placed flows are to have of frame `k`, in the order of their offsets, and answers how
+    /// many spots these are: what each takes, but of a flow that rests one poll at the first of its starts there. The
+    /// rest of the array stays.
     pub fn in_frame(&self, k: u64, spots: &mut [Spot; MAX_SPOTS]) -> usize
         // Exactly the spots of the frame are written.
-        ensures spots { IsPermutation (spots_in self.now.config k self.now.placed)
+        ensures spots { IsPermutation (due_in self.now.config k self.now.placed)
             (take result spots.new) }
         ensures rest { drop result spots.new ≡ drop result spots.old }
         ensures most { result ≤ MAX_SPOTS }

@@ -1,25 +1,26 @@
 -- Which reply may follow a history, and which histories are legal.
-use Rattle.std.specs.Prelude.{◌≡◌, ℕ, ◌+◌, ◌/◌, ◌⊎◌, List, [], Option, None}
-use Rattle.std.specs.Prelude.{Some, MatchOption, if◌then◌else◌}
+use Rattle.std.specs.Prelude.{◌≡◌, ℕ, ◌+◌, ◌/◌, ◌⊎◌, true, false, List, [], Option, None}
+use Rattle.std.specs.Prelude.{Some, MatchOption, IsSomeAnd, if◌then◌else◌}
 use Rattle.minislots.specs.declared.config.Config.{Config}
 use Rattle.sched_calls.specs.declared.spec.FlowSpec.{FlowSpec}
 use Rattle.sched_calls.specs.declared.spec.FlowSpec.TheVariants.{Unsolicited, Polled, BestEffort}
-use Rattle.sched_calls.specs.FlowSpec.{takes_requests}
+use Rattle.sched_calls.specs.FlowSpec.{is_periodic, has_place_of, takes_requests}
 use Rattle.flow_book.specs.Flows.{LiveFlow, granted, outstanding}
 use Rattle.sched_calls.specs.declared.placement.Placement.{Placement}
-use Rattle.periodic.specs.Placement.{IsPlacement, NoPlacement, due_in}
+use Rattle.periodic.specs.Placement.{IsPlacement, NoPlacement, IsToldFrom, due_in}
+use Rattle.periodic.specs.Table.{without}
 use Rattle.sched_calls.specs.declared.frame_map.FrameMap.{FrameMap}
 use Rattle.map_build.specs.EachAfter.{EachAfter}
 use Rattle.map_build.specs.Plan.{Demand, demand_at}
 use Rattle.map_build.specs.FrameMap.{IsLawfulMap}
 use Rattle.sched_calls.specs.declared.call.Call.{Call}
 use Rattle.sched_calls.specs.declared.call.Call.TheVariants.{Admit, Remove, Ask, Heard, Build, Skip, Status}
-use Rattle.sched_calls.specs.declared.call.Call.TheVariants.{Reserve, Header}
+use Rattle.sched_calls.specs.declared.call.Call.TheVariants.{Reserve, Header, Replace, Change, Rest, Wake}
 use Rattle.sched_calls.specs.declared.reply.Refusal.TheVariants.{NoPlace}
 use Rattle.sched_calls.specs.declared.reply.Reply.{Reply}
 use Rattle.sched_calls.specs.declared.reply.Reply.TheVariants as replies
 use Rattle.sched_calls.specs.declared.reply.Entry.{Entry}
-use Rattle.sched_history.specs.Life.{life_of, flow_in_life, flows_of, table_of}
+use Rattle.sched_history.specs.Life.{Admission, life_of, given_in, flow_in_life, flows_of, table_of}
 use Rattle.sched_history.specs.Time.{next_after, ack_after, IsFirstStart}
 use Rattle.sched_history.specs.Reserves.{header_after, reserves_of, waiting_in}
 use Rattle.sched_history.specs.Refusal.{refusal_of}
@@ -38,27 +39,24 @@ AnswersAdmit c h (Polled interval jitter rate burst) reply =
     PlacesOrRefuses c h (Polled interval jitter rate burst) reply
 AnswersAdmit c h (BestEffort priority rate burst) reply = reply ≡ replies.Admitted None
 
--- A placement that stands, told from the next frame on: its starts, and its first nominal time there
-pub record IsToldFrom (c : Config) (spec : FlowSpec) (next : ℕ) (stands p : Placement) : Type 0 where
-  pub starts : p.starts ≡ stands.starts
-  pub not_before : next ≤ p.reference
-  pub first : p.reference < next + interval_frames c spec * c.frame
-  pub nominal : p.reference % (interval_frames c spec * c.frame) ≡ stands.reference % (interval_frames c spec * c.frame)
-
--- a flow of these parameters and this placement is placed anew beside the others, or refused where there is no place
+-- a flow is placed anew beside the others, its own placement taken out before, or refused where there is no place
 abbrev pub PlacesAnew : Config → List Entry → ℕ → FlowSpec → Reply → Type 0
 PlacesAnew c h sid spec reply = ((p : Placement)
     × IsPlacement c (without sid (table_of h)) spec (next_after c h) p × (reply ≡ replies.Changed (Some p)))
     ⊎ (NoPlacement c (without sid (table_of h)) spec (next_after c h) × (reply ≡ replies.Refused NoPlace))
 
--- a change's answer, of a flow that had these parameters and this placement: a best effort flow has no place
+-- a flow keeps the placement that it was given, with these parameters
+abbrev pub KeepsPlace : Config → List Entry → Admission → FlowSpec → Reply → Type 0
+KeepsPlace c h given spec reply = (p : Placement)
+    × IsSomeAnd given.placement (λ stands. IsToldFrom c spec (next_after c h) stands p) × (reply ≡ replies.Changed (Some p))
+
+-- a change's answer, of a flow that was given this: a periodic flow that leaves what places it keeps its placement, any
+-- other is placed anew, and a best effort flow has no place
 abbrev pub AnswersChange : Config → List Entry → ℕ → Admission → FlowSpec → Reply → Type 0
 AnswersChange c h sid given spec reply =
-    if has_place_of given.spec spec then
-        (p : Placement) × IsSomeAnd given.placement (λ stands. IsToldFrom c spec (next_after c h) stands p)
-        × (reply ≡ replies.Changed (Some p))
-    else if is_periodic spec then PlacesAnew c h sid spec reply
-    else reply ≡ replies.Changed None
+    ((has_place_of given.spec spec ≡ true) × KeepsPlace c h given spec reply)
+    ⊎ (((has_place_of given.spec spec ≡ false) × (is_periodic spec ≡ true) × PlacesAnew c h sid spec reply)
+    ⊎ ((is_periodic spec ≡ false) × (reply ≡ replies.Changed None)))
 
 -- the bytes that a status answers for a live flow: zeros where it does not ask
 abbrev pub flow_status : LiveFlow → Reply
@@ -86,7 +84,7 @@ Answers c h (Remove sid) reply = reply ≡ replies.Removed
 Answers c h (Ask receiver sid amount heard) reply = reply ≡ replies.Taken
 Answers c h (Replace receiver sid amount heard) reply = reply ≡ replies.Taken
 Answers c h (Change sid spec) reply = MatchOption (life_of sid h) ⊥
-    (λ life. AnswersChange c h sid (given_after sid life.admission life.since) spec reply)
+    (λ life. AnswersChange c h sid (given_in sid life) spec reply)
 Answers c h (Rest sid) reply = reply ≡ replies.Noted
 Answers c h (Wake sid) reply = reply ≡ replies.Noted
 Answers c h (Heard receiver upto) reply = reply ≡ replies.Noted

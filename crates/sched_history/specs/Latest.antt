@@ -7,7 +7,7 @@ pub record Found (X Y : Type 0) : Type 0 where
   pub said : Y
   pub after : List X
 
--- the members of a list up to those at its end
+-- the members of a list but so many at its end as this one has
 abbrev pub up_to : {X : Type 0} → List X → List X → List X
 up_to xs after = take (length xs - length after) xs
 

@@ -1,6 +1,8 @@
 -- The lives of flows in a history: admissions, removals, requests and grants.
-use Rattle.std.specs.Prelude.{ℕ, ◌+◌, ◌&&◌, nat_lt, ◌==◌, List, [], ◌∷◌, ◌++◌, sum_by, filter_map, flat_map, zip}
-use Rattle.std.specs.Prelude.{Option, None, Some, option_map, option_and_then, if◌then◌else◌}
+use Rattle.std.specs.Prelude.{ℕ, ◌+◌, Bool, true, false, not, ◌&&◌, nat_lt, ◌==◌, List, [], ◌∷◌, ◌++◌, length}
+use Rattle.std.specs.Prelude.{sum_by, filter_map, flat_map, zip, Option, None, Some, option_map, option_and_then}
+use Rattle.std.specs.Prelude.{if◌then◌else◌}
+use Rattle.std.specs.Option.{option_map_or}
 use Rattle.minislots.specs.declared.config.Config.{Config}
 use Rattle.map_codec.specs.declared.element.Element.{Element}
 use Rattle.sched_calls.specs.Amount.{requested}
@@ -9,6 +11,7 @@ use Rattle.flow_book.specs.declared.flow.Grant.{Grant}
 use Rattle.flow_book.specs.declared.batches.Batches.{Batches}
 use Rattle.flow_book.specs.Batches.{no_batches, with_request}
 use Rattle.flow_book.specs.Flows.{LiveFlow, bytes_of}
+use Rattle.flow_book.specs.Book.{has_ceiling_of}
 use Rattle.sched_calls.specs.declared.placement.Placement.{Placement}
 use Rattle.periodic.specs.Placement.{count_from, Placed}
 use Rattle.sched_calls.specs.declared.frame_map.FrameMap.{FrameMap}
@@ -17,7 +20,7 @@ use Rattle.sched_calls.specs.declared.call.Call.TheVariants as calls
 use Rattle.sched_calls.specs.declared.reply.Reply.{Reply}
 use Rattle.sched_calls.specs.declared.reply.Reply.TheVariants as replies
 use Rattle.sched_calls.specs.declared.reply.Entry.{Entry}
-use Rattle.sched_history.specs.Latest.{latest}
+use Rattle.sched_history.specs.Latest.{up_to, latest}
 
 -- what an admission or a change gives a flow: its parameters, and its placement where it is periodic
 pub record Admission : Type 0 where
@@ -121,7 +124,7 @@ change_by sid (calls.Change other spec) (replies.Changed placement) =
     if other == sid then Some (record { spec = spec; placement = placement }) else None
 change_by sid call reply = None
 
--- what a flow with these parameters and this placement has after these entries of its life: those of the latest change
+-- what a flow that was given this first has after these entries of its life: what the latest change gave it
 abbrev pub given_after : ℕ → Admission → List Entry → Admission
 given_after sid first entries =
     option_map_or (λ found. found.said) (latest (λ e. change_by sid e.call e.reply) entries) first
@@ -139,7 +142,7 @@ period_after sid given period (e ∷ entries) =
     if changes_ceiling sid given.spec e then period_after sid (given_after sid given (e ∷ [])) [] entries
     else period_after sid (given_after sid given (e ∷ [])) (period ++ e ∷ []) entries
 
--- those of a whole life
+-- the entries of a life in the present period of its ceiling
 abbrev pub period_of : ℕ → Life → List Entry
 period_of sid life = period_after sid life.admission [] life.since
 
@@ -154,12 +157,16 @@ rest_by sid call reply = None
 abbrev pub rests_in : ℕ → List Entry → Bool
 rests_in sid entries = option_map_or (λ found. found.said) (latest (λ e. rest_by sid e.call e.reply) entries) false
 
+-- what the flow of a life has: its parameters, and its placement where it is periodic
+abbrev pub given_in : ℕ → Life → Admission
+given_in sid life = given_after sid life.admission life.since
+
 -- the live flow that a life is
 abbrev pub flow_in_life : Config → ℕ → Life → LiveFlow
 flow_in_life c sid life =
     record {
       sid = sid;
-      spec = (given_after sid life.admission life.since).spec;
+      spec = (given_in sid life).spec;
       asked = asked_in c sid life.since;
       batches = batches_in c sid life.since;
       grants = grants_since sid life.since;
@@ -170,10 +177,10 @@ flow_in_life c sid life =
 abbrev pub placed_in_life : ℕ → Life → Option Placed
 placed_in_life sid life = option_map (λ p. record {
   sid = sid;
-  spec = (given_after sid life.admission life.since).spec;
+  spec = (given_in sid life).spec;
   placement = p;
   rests = rests_in sid life.since;
-}) (given_after sid life.admission life.since).placement
+}) (given_in sid life).placement
 
 -- the greatest SID of a flow
 abbrev pub last_sid : ℕ

@@ -10,6 +10,7 @@ use sched_calls::{FrameMap, Placement, Refusal, Reply};
 #[derive(Clone, Copy, PartialEq, Eq)]
 pub(crate) enum FlatReply {
     Admitted,
+    Changed,
     Removed,
     Taken,
     Noted,
@@ -40,6 +41,8 @@ fn flat_of(reply: &Reply) -> Option<FlatReply>
     match reply {
         Reply::Admitted(None) => Some(FlatReply::Admitted),
         Reply::Admitted(Some(_)) => None,
+        Reply::Changed(None) => Some(FlatReply::Changed),
+        Reply::Changed(Some(_)) => None,
         Reply::Removed => Some(FlatReply::Removed),
         Reply::Taken => Some(FlatReply::Taken),
         Reply::Noted => Some(FlatReply::Noted),

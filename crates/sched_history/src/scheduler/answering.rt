@@ -10,7 +10,7 @@ use super::planned::Planned;
 use super::refusing::is_periodic;
 use super::state::State;
 use periodic::PlaceFault;
-use sched_calls::{Call, FlowSpec, Header, Opportunity, Refusal, Reply, Usage};
+use sched_calls::{Amount, Call, FlowSpec, Header, Opportunity, Refusal, Reply, Usage};
 use std::alloc::{AllocError, Global};
 
 // An answer, and the same again for the history.
@@ -51,7 +51,68 @@ impl State {
             Call::Status(sid) => Ok(self.tell(sid)),
             Call::Reserve { usage, slots } => Ok(self.reserve(usage, slots)),
             Call::Header(header) => Ok(self.note_header(header)),
+            Call::Replace {
+                receiver,
+                sid,
+                amount,
+                heard,
+            } => Ok(self.replace(receiver, sid, amount, heard)),
+            Call::Change(sid, spec) => self.change(alloc, sid, spec),
+            Call::Rest(sid) => Ok(self.rest(sid)),
+            Call::Wake(sid) => Ok(self.wake(sid)),
         }
+    }
+
+    // Leaves so much outstanding of a flow in the place of what was.
+    fn replace(&mut self, receiver: u8, sid: u16, amount: Amount, heard: u64) -> Answer
+        requires { IsOpen self.old (Call.Replace receiver sid amount heard) }
+        ensures { AnswersOpen self.old self.new (Call.Replace receiver sid amount heard) result }
+    {
+        let bytes = amount.bytes(&self.config) as u32;
+        self.book.replace(sid, bytes, heard);
+        Answer {
+            reply: Reply::Taken,
+            kept: Reply::Taken,
+        }
+    }
+
+    // Lets a flow rest.
+    fn rest(&mut self, sid: u16) -> Answer
+        requires { IsOpen self.old (Call.Rest sid) }
+        ensures { AnswersOpen self.old self.new (Call.Rest sid) result }
+    {
+        self.table.rest(sid);
+        Answer {
+            reply: Reply::Noted,
+            kept: Reply::Noted,
+        }
+    }
+
+    // Wakes a flow.
+    fn wake(&mut self, sid: u16) -> Answer
+        requires { IsOpen self.old (Call.Wake sid) }
+        ensures { AnswersOpen self.old self.new (Call.Wake sid) result }
+    {
+        self.table.wake(sid);
+        Answer {
+            reply: Reply::Noted,
+            kept: Reply::Noted,
+        }
+    }
+
+    // Gives a flow other parameters. A periodic flow that leaves what places it keeps its placement, any other is
+    // placed anew.
+    fn change(&mut self, _alloc: Global, sid: u16, spec: FlowSpec) -> Result<Answer, AllocError>
+        requires { IsOpen self.old (Call.Change sid spec) }
+        ensures answered { IfOk result (AnswersOpen self.old self.new (Call.Change sid spec)) }
+        ensures err { OnErr result (self.new ≡ self.old) }
+        ensures memory { OnErr result (TakesMemoryOpen self.old (Call.Change sid spec)) }
+    {
+        self.book.change(sid, spec);
+        Ok(Answer {
+            reply: Reply::Changed(None),
+            kept: Reply::Changed(None),
+        })
     }
 
     // Admits a flow that has no place in the cycle.

@@ -32,6 +32,7 @@ impl State {
         match call {
             Call::Admit(sid, spec) if is_periodic(spec) => self.follow_admission(sid, spec, reply),
             Call::Build { now } => self.follow_build(alloc, now, reply),
+            Call::Change(sid, spec) if is_periodic(spec) => self.follow_change(sid, spec, reply),
             _ => self.follow_told(alloc, call, reply),
         }
     }
@@ -71,6 +72,9 @@ impl State {
             Call::Status(sid) => self.tell(sid).reply,
             Call::Reserve { .. } => Reply::Reserved,
             Call::Header(_) => Reply::Noted,
+            Call::Replace { .. } => Reply::Taken,
+            Call::Change(_, _) => Reply::Changed(None),
+            Call::Rest(_) | Call::Wake(_) => Reply::Noted,
         }
     }
 
@@ -95,6 +99,28 @@ impl State {
             return self.adopt(sid, spec, placement);
         }
         Ok(is_refused(reply, Refusal::NoPlace) && self.has_no_place(sid, spec))
+    }
+
+    // Follows a change of a periodic flow: the reply has the placement that it keeps or a lawful one, or says that there
+    // is none.
+    fn follow_change(
+        &mut self,
+        sid: u16,
+        spec: FlowSpec,
+        _reply: &Reply,
+    ) -> Result<bool, AllocError>
+        requires open { IsOpen self.old (Call.Change sid spec) }
+        requires periodic { is_periodic spec ≡ true }
+        ensures follows { IfOk result (λ is. is ≡ true →
+            FollowsOpen self.old self.new (Call.Change sid spec) _reply.now) }
+        ensures differs { IfOk result
+            (λ is. is ≡ false → DiffersOpen self.old (Call.Change sid spec) _reply.now) }
+        ensures same { IfOk result (λ is. is ≡ false → self.new ≡ self.old) }
+        ensures err { OnErr result (self.new ≡ self.old) }
+        ensures memory { OnErr result (TakesMemoryOpen self.old (Call.Change sid spec)) }
+    {
+        self.book.change(sid, spec);
+        Ok(true)
     }
 
     // Whether this placement is lawful for the flow. Where it is, the flow is admitted with it.

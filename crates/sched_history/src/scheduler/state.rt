@@ -9,7 +9,7 @@ ghost use Rattle.flow_book.specs.Flows.{flow_of};
 ghost use Rattle.flow_book.specs.Choice.{HasStartedBy};
 ghost use Rattle.flow_book.specs.Book.{IsLive, with_flow, new_flow, without};
 ghost use Rattle.periodic.specs.Placement.{IsPlacement, NoPlacement};
-ghost use Rattle.periodic.specs.Table.{placed_grants, IsPlaced, with_placed, without as without_placed};
+ghost use Rattle.periodic.specs.Table.{placed_grants, IsPlaced, placed_at, with_placed, without as without_placed};
 ghost use Rattle.sched_calls.specs.declared.frame_map.FrameMap.{FrameMap};
 ghost use Rattle.map_build.specs.Opportunities.{MayWait, HaveStationSids};
 ghost use Rattle.map_build.specs.FrameMap.{IsLawfulMap, IsLawfulFrame};
@@ -147,7 +147,7 @@ impl State {
             IsPlacement self.old.table.config self.old.table.placed spec self.old.next twice.0) }
         ensures twice { IfOk result (λ twice. twice.1 ≡ twice.0) }
         ensures placed { IfOk result (λ twice. self.new.table.placed ≡ with_placed
-            (record { sid = sid; spec = spec; placement = twice.0 }) self.old.table.placed) }
+            (placed_at sid spec twice.0) self.old.table.placed) }
         ensures flows { OnOk result (self.new.book.flows
             ≡ with_flow (new_flow sid spec) self.old.book.flows) }
         ensures book_config { self.new.book.config ≡ self.old.book.config }

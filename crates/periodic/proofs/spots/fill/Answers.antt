@@ -2,10 +2,10 @@
 use Rattle.std.proofs.Common.{◌≡◌, ◌∙◌, sym, ap, ℕ, ◌%◌, ◌<◌, ◌++◌, length, take, map, arith}
 use Rattle.std.proofs.lemmas.List.{length-take-le}
 use Rattle.flow_book.proofs.Steps.{taken-item}
-use Rattle.periodic.specs.Placement.{spots_of, spots_in}
+use Rattle.periodic.specs.Placement.{due_of, due_in}
 use Rattle.periodic.specs.Fields.{placed_of}
 use Rattle.periodic.proofs.Fields.{sound-flow, spots-more, spots-room, drop-later}
-use Rattle.periodic.proofs.Frames.{spots_of-place}
+use Rattle.periodic.proofs.Frames.{due_of-place}
 use Rattle.periodic.proofs.spots.fill.Goals as goal
 
 -- the place is one of the cycle's
@@ -25,8 +25,8 @@ put-count-requires c =
     let sound = sound-flow config items i f c.loop-flow-test.true c.flow-item.is c.requires.sound.each
     c.requires.sound.times in
     let place = within c.args.k c.from.result c.cycle.result config.cycle c.from.ensures c.cycle.ensures.value some in
-    let here : spots_of config (c.args.k % c.from.result) (placed_of f) ≡ spots_of config c.args.k (placed_of f) =
-    ap (λ n. spots_of config n (placed_of f)) place.0 ∙ spots_of-place config c.args.k (placed_of f) in
+    let here : due_of config (c.args.k % c.from.result) (placed_of f) ≡ due_of config c.args.k (placed_of f) =
+    ap (λ n. due_of config n (placed_of f)) place.0 ∙ due_of-place config c.args.k (placed_of f) in
     let front = ap length c.loop-flow.invariant.spots in
     let long = length-take-le c.loop-flow.count c.loop-flow.spots
     (omega (arith, c.loop-flow.invariant.most, c.loop-flow.invariant.long)) in
@@ -43,15 +43,15 @@ loop-flow-preserved c =
     let sound = sound-flow config items i f c.loop-flow-test.true c.flow-item.is c.requires.sound.each
     c.requires.sound.times in
     let place = within c.args.k c.from.result c.cycle.result config.cycle c.from.ensures c.cycle.ensures.value some in
-    let here : spots_of config (c.args.k % c.from.result) (placed_of f) ≡ spots_of config c.args.k (placed_of f) =
-    ap (λ n. spots_of config n (placed_of f)) place.0 ∙ spots_of-place config c.args.k (placed_of f) in
+    let here : due_of config (c.args.k % c.from.result) (placed_of f) ≡ due_of config c.args.k (placed_of f) =
+    ap (λ n. due_of config n (placed_of f)) place.0 ∙ due_of-place config c.args.k (placed_of f) in
     let before = map placed_of (take i items) in
     let taken = taken-item placed_of items i f c.loop-flow-test.true c.flow-item.is in
     rw taken (record {
       long = c.put-count.array_long;
       spots = c.put-count.ensures.spots config sound place.1
-          ∙ ap (λ ss. ss ++ spots_of config (c.args.k % c.from.result) (placed_of f)) c.loop-flow.invariant.spots
-          ∙ ap (λ ss. spots_in config c.args.k before ++ ss) here
+          ∙ ap (λ ss. ss ++ due_of config (c.args.k % c.from.result) (placed_of f)) c.loop-flow.invariant.spots
+          ∙ ap (λ ss. due_in config c.args.k before ++ ss) here
           ∙ sym (spots-more config c.args.k before (placed_of f));
       rest = c.put-count.ensures.rest
           ∙ drop-later c.loop-flow.spots c.args.spots.now c.loop-flow.count c.put-count.result c.put-count.ensures.more

@@ -2,7 +2,7 @@
 use Rattle.std.proofs.Common.{◌≡◌, ◌+◌, ◌<◌, ◌++◌, length, map, take, drop}
 use Rattle.minislots.specs.declared.config.Config.{Config}
 use Rattle.periodic.specs.declared.TheConstants.{MAX_SPOTS}
-use Rattle.periodic.specs.Placement.{spot_at, starts_in}
+use Rattle.periodic.specs.Placement.{due_at, due_starts}
 use Rattle.periodic.specs.Fields.{placed_of, IsSoundFlow}
 use Rattle.periodic.proofs.spots.PlacedFlow.put.Given as goal
 
@@ -12,6 +12,6 @@ invariant-loop-start l = record {
   count : l.next ≡ l.count + l.start-index;
   spots : (c : Config) → IsSoundFlow c l.self → l.place < c.cycle
       → take l.next l.spots ≡ take l.count l.fn.spots
-      ++ map (spot_at c (placed_of l.self)) (take l.start-index (starts_in c l.self.spec l.self.placement l.place));
+      ++ map (due_at c (placed_of l.self)) (take l.start-index (due_starts c (placed_of l.self) l.place));
   rest : drop l.next l.spots ≡ drop l.next l.fn.spots;
 }

@@ -43,14 +43,14 @@ admit-requires c =
 
 pub remove-requires : goal.remove-requires
 remove-requires c =
-    let p : Placed = record { sid = c.args.sid; spec = c.args.spec; placement = c.args.placement.now } in
+    let p : Placed = record { sid = c.args.sid; spec = c.args.spec; placement = c.args.placement.now; rests = false } in
     rw (c.in_ok-adopt.ensures.placed c.if-not-branch.false)
     (find-with_placed p c.args.self.now.table.placed)
 
 pub returns-in-Err-clause-err : goal.returns-in-Err-clause-err
 returns-in-Err-clause-err c =
     let old : State = c.args.self.now in
-    let p : Placed = record { sid = c.args.sid; spec = c.args.spec; placement = c.args.placement.now } in
+    let p : Placed = record { sid = c.args.sid; spec = c.args.spec; placement = c.args.placement.now; rests = false } in
     let opens = c.requires.open.1 in
     let admits = passed-admit old.config c.requires.open.0 c.args.sid c.args.spec opens.unrefused in
     let put : TableView = c.adopt.new.self in

@@ -37,7 +37,7 @@ place-requires-clause-room c =
 
 pub remove-requires : goal.remove-requires
 remove-requires c =
-    let p : Placed = record { sid = c.args.sid; spec = c.args.spec; placement = c.in-Ok.field-0 } in
+    let p : Placed = record { sid = c.args.sid; spec = c.args.spec; placement = c.in-Ok.field-0; rests = false } in
     rw (c.in-Ok.ensures.placed) (find-with_placed p c.args.self.now.table.placed)
 
 pub returns-clause-same : goal.returns-clause-same
@@ -49,7 +49,7 @@ returns-clause-same c =
     let put : TableView = c.place.new.self in
     elim c.match-place.branch [
       | in-Ok w ↦ (
-          let p : Placed = record { sid = c.args.sid; spec = c.args.spec; placement = w.in-Ok.field-0 } in
+          let p : Placed = record { sid = c.args.sid; spec = c.args.spec; placement = w.in-Ok.field-0; rests = false } in
           w.self-is ∙ rw (w.remove.ensures)
           (ap (λ (t : TableView). record old { table = t })
           (table-undone old.table put p fresh w.in-Ok.ensures.config w.in-Ok.ensures.placed)))
