@@ -14,6 +14,11 @@ use Rattle.periodic.specs.Placement.{Placed, phase_of, offset_of, group_at, star
 use Rattle.periodic.specs.Placement.{IsLawfulStart, AreLawfulStarts, HasLawfulStarts, IsPlacement, IsToldFrom}
 use Rattle.periodic.specs.Table.{placed_at, IsSoundPlaced}
 
+-- grants of this size and length at these starts, or polls
+abbrev spots_by : ℕ → Option ℕ → ℕ → List ℕ → List Spot
+spots_by sid size slots starts =
+    map (λ start. record { sid = sid; size = size; offset = start; slots = slots }) starts
+
 -- Two flows are placed in the same way
 pub record ArePlacedAlike (c : Config) (old new : FlowSpec) : Type 0 where
   pub periodic : is_periodic new ≡ true
@@ -95,7 +100,10 @@ module _ (c : Config) (old new : FlowSpec) (stands p : Placement) (next : ℕ) (
   pub spots-told : (k sid : ℕ) (f : Placed) → f.sid ≡ sid → f.spec ≡ old → f.placement ≡ stands
       → spots_of c k (placed_at sid new p) ≡ spots_of c k f
   spots-told k sid f own spec placed =
-      rw (own, spec, placed, starts-told (k % c.cycle), alike.size, alike.slots) refl
+      let place = k % c.cycle in
+      rw (own, spec, placed) (ap (λ size. spots_by sid size (periodic_slots c new) (starts_in c new p place)) alike.size
+      ∙ ap (λ slots. spots_by sid (size_of old) slots (starts_in c new p place)) alike.slots
+      ∙ ap (spots_by sid (size_of old) (periodic_slots c old)) (starts-told place))
 
   -- and is sound as it was
   pub sound-told : (f : Placed) → f.spec ≡ old → f.placement ≡ stands → first_fault c new ≡ None → IsSoundPlaced c f
