@@ -1,6 +1,6 @@
 -- The live flows and placements after one more entry.
 use Rattle.std.proofs.Common.{◌≡◌, ℕ, ◌+◌, Bool, true, false, not, if◌then◌else◌, List, [], ◌∷◌, ◌++◌, length, map}
-use Rattle.std.proofs.Common.{Option, None, Some, refl, ap, ◌∙◌, arith, append-nil}
+use Rattle.std.proofs.Common.{Option, None, Some, refl, sym, ap, ◌∙◌, arith, append-nil}
 use Rattle.std.proofs.lemmas.List.{append_assoc}
 use Rattle.std.specs.Option.{option_map, option_map_or, option_and_then}
 use Rattle.std.proofs.lemmas.List.Sums.{sum_by_push}
@@ -156,7 +156,8 @@ period_after-push sid given period [] e = refl
 period_after-push sid given period (d ∷ entries) e =
     let next = given_after sid given (d ∷ []) in
     let same : given_after sid given (d ∷ entries) ≡ given_after sid next entries =
-    said-cons (λ x. change_by sid x.call x.reply) given d entries in
+    said-cons (λ x. change_by sid x.call x.reply) given d entries
+    ∙ ap (λ g. given_after sid g entries) (sym (said-cons (λ x. change_by sid x.call x.reply) given d [])) in
     rw (same, period_after-push sid next [] entries e, period_after-push sid next (period ++ d ∷ []) entries e)
     (either-period (changes_ceiling sid given.spec d) (changes_ceiling sid (given_after sid next entries).spec e)
     (period_after sid next [] entries) (period_after sid next (period ++ d ∷ []) entries) e)

@@ -103,7 +103,7 @@ change-pairs : (c : Config) (h : List Entry) (sid : ℕ) (given a : Admission)
     → AnswersChange c h sid given a.spec (replies.Changed a.placement) → IsPaired a
 change-pairs c h sid given a (inl (same, (p, told, is))) =
     changed-some a.placement p is ∙ sym (alike-placed c given.spec a.spec same).periodic
-change-pairs c h sid given a (inr (inl (other, (periodic, answers)))) =
+change-pairs c h sid given a (inr (inl (other, periodic, answers))) =
     anew-pairs c h sid a.spec a.placement answers ∙ sym periodic
 change-pairs c h sid given a (inr (inr (aperiodic, is))) = changed-none a.placement is ∙ sym aperiodic
 

@@ -162,7 +162,7 @@ module _ (c : Config) where
         faultless = may.no_fault;
         periodic = alike.periodic;
       }
-  place_changes h e sid given a p step may at (inr (inl (other, (periodic, answers)))) was = record {
+  place_changes h e sid given a p step may at (inr (inl (other, periodic, answers))) was = record {
     table = without sid (table_of h);
     since = next_after c h;
     past = next_after-ascends c h e step;

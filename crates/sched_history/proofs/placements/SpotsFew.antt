@@ -113,7 +113,7 @@ module _ (c : Config) (conf : IsLawful c) where
         let them : q ≡ p = cc in
         few-kept sid spec p given rests k given.placement refl found same
         (subst (λ r. IsSomeAnd given.placement (λ stands. IsToldFrom c spec (next_after c h) stands r)) them told)
-    few-given sid spec p given rests k found (inr (inl (other, (periodic, answers)))) =
+    few-given sid spec p given rests k found (inr (inl (other, periodic, answers))) =
         few-with c (without_placed sid (table_of h)) sid spec (next_after c h) p k conf
         (changed_place c h sid spec (Some p) p refl answers)
     few-given sid spec p given rests k found (inr (inr (aperiodic, is))) = absurd cc

@@ -83,7 +83,7 @@ unplaced-given : (c : Config) (h : List Entry) (sid : ℕ) (given : Admission) (
     → not (is_periodic spec) ≡ true → AnswersChange c h sid given spec r → r ≡ replies.Changed None
 unplaced-given c h sid given spec r told (inl (same, answers)) =
     let periodic = (alike-placed c given.spec spec same).periodic in absurd (cc)
-unplaced-given c h sid given spec r told (inr (inl (other, (periodic, answers)))) = absurd (cc)
+unplaced-given c h sid given spec r told (inr (inl (other, periodic, answers))) = absurd (cc)
 unplaced-given c h sid given spec r told (inr (inr (aperiodic, is))) = is
 
 unplaced-one : (c : Config) (h : List Entry) (sid : ℕ) (o : Option Life) (spec : FlowSpec) (r : Reply)

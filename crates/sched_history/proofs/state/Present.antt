@@ -55,7 +55,8 @@ told : (c : Config) (sid : ℕ) (o : Option Life) (reply : Reply) → is_some o 
 told c sid None reply live same = absurd cc
 told c sid (Some life) reply live same = sym same
 
-placement-some : (sid : ℕ) (spec : FlowSpec) (rests : Bool) (placement : Option Placement) → is_some placement ≡ true
+-- a life with a placement is placed
+pub placement-some : (sid : ℕ) (spec : FlowSpec) (rests : Bool) (placement : Option Placement) → is_some placement ≡ true
     → IsSome {T = Placed} (option_map (placed_with sid spec rests) placement)
 placement-some sid spec rests None e = absurd cc
 placement-some sid spec rests (Some p) e = refl

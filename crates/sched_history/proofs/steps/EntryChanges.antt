@@ -157,7 +157,7 @@ module _ (c : Config) (lawful : IsLawful c) (stamp : Stamp) (h : List Entry) whe
       → AnswersChange c h sid given spec reply → EntryChange c h (after (calls.Change sid spec) reply)
   gives sid spec given reply may (inl (same, (p, told, is))) =
       by_reply (calls.Change sid spec) reply (replies.Changed (Some p)) is (gave sid spec (Some p) may)
-  gives sid spec given reply may (inr (inl (other, (periodic, answers)))) = anew sid spec reply may answers
+  gives sid spec given reply may (inr (inl (other, periodic, answers))) = anew sid spec reply may answers
   gives sid spec given reply may (inr (inr (aperiodic, is))) =
       by_reply (calls.Change sid spec) reply (replies.Changed None) is (gave sid spec None may)
 

@@ -108,7 +108,7 @@ still_anew c h sid spec reply (inr refused) = subst IsStill (sym refused.1) (ref
 still_given : (c : Config) (h : List Entry) (sid : ℕ) (spec : FlowSpec) (given : Admission) (reply : Reply)
     → AnswersChange c h sid given spec reply → IsStill reply
 still_given c h sid spec given reply (inl (same, (p, told, is))) = subst IsStill (sym is) (refl, refl)
-still_given c h sid spec given reply (inr (inl (other, (periodic, answers)))) = still_anew c h sid spec reply answers
+still_given c h sid spec given reply (inr (inl (other, periodic, answers))) = still_anew c h sid spec reply answers
 still_given c h sid spec given reply (inr (inr (aperiodic, is))) = subst IsStill (sym is) (refl, refl)
 
 still_change : (c : Config) (h : List Entry) (sid : ℕ) (spec : FlowSpec) (o : Option Life) (reply : Reply)

@@ -1,4 +1,4 @@
-use Rattle.std.proofs.Common.{ap}
+use Rattle.std.proofs.Common.{false, ap}
 use Rattle.periodic.specs.Placement.{Placed}
 use Rattle.periodic.specs.Table.{TableView}
 use Rattle.sched_history.specs.declared.scheduler.state.State.{State}

@@ -1,5 +1,5 @@
 -- A periodic flow is admitted with the place that is handed in.
-use Rattle.std.proofs.Common.{Some, refl, ap, inl, arith, Result, Ok, Err, OnErr}
+use Rattle.std.proofs.Common.{false, Some, refl, ap, inl, arith, Result, Ok, Err, OnErr}
 use Rattle.periodic.specs.Placement.{Placed, IsPlacement}
 use Rattle.periodic.specs.Table.{TableView}
 use Rattle.sched_history.specs.declared.scheduler.state.State.{State}

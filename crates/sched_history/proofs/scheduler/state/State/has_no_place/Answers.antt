@@ -1,5 +1,5 @@
 -- There is no place for a periodic flow.
-use Rattle.std.proofs.Common.{refl, ap, ◌∙◌, inr, arith}
+use Rattle.std.proofs.Common.{false, refl, ap, ◌∙◌, inr, arith}
 use Rattle.periodic.specs.Placement.{Placed}
 use Rattle.periodic.specs.Table.{TableView}
 use Rattle.sched_history.specs.declared.scheduler.state.State.{State}
