@@ -2,6 +2,8 @@
 pub mod Opening
 pub mod Present
 pub mod Voices
+pub mod Changing
+pub mod ChangeMoves
 pub mod Sums
 pub mod Moves
 pub mod Recording

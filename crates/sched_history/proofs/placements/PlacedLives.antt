@@ -108,7 +108,7 @@ later_placed c slot later spec p le was =
     }
 
 -- an accepted change places anew what it places
-changed_place : (c : Config) (h : List Entry) (sid : ℕ) (spec : FlowSpec) (placement : Option Placement) (p : Placement)
+pub changed_place : (c : Config) (h : List Entry) (sid : ℕ) (spec : FlowSpec) (placement : Option Placement) (p : Placement)
     → placement ≡ Some p → PlacesAnew c h sid spec (replies.Changed placement)
     → IsPlacement c (without sid (table_of h)) spec (next_after c h) p
 changed_place c h sid spec placement p at (inl (q, lawful, is)) =

@@ -1,6 +1,6 @@
 //! Which calls are refused: the tests in their order, of which the first that holds is answered.
 
-ghost use Rattle.std.specs.Prelude.{◌≡◌, ◌<◌, ◌≤◌, ◌+◌, true, ◌∷◌, [], false, not, nat_lt, nat_le, ◌==◌, ◌||◌, ◌&&◌, option_map};
+ghost use Rattle.std.specs.Prelude.{◌≡◌, ◌<◌, ◌≤◌, ◌+◌, Some, true, ◌∷◌, [], false, not, nat_lt, nat_le, ◌==◌, ◌||◌, ◌&&◌, option_map};
 ghost use Rattle.sched_calls.specs.FlowSpec.{is_periodic, is_kind_of, grants_of, takes_requests};
 ghost use Rattle.sched_history.specs.Life.{life_of, given_in};
 ghost use Rattle.sched_history.specs.Time.{next_after, progress_of};
@@ -201,19 +201,30 @@ impl<'a> Present<'a> {
         } else if let Err(fault) = spec.check(&self.state.config) {
             Some(Refusal::BadFlow(fault))
         } else {
-            self.refuse_grants(sid, spec)
+            self.refuse_grants(sid, old, spec)
         }
     }
 
-    // The refusal of other parameters where the grants per interval would be too many.
-    fn refuse_grants(&self, sid: u16, spec: FlowSpec) -> Option<Refusal>
+    // The grants per interval of the live flows but of the one with these parameters.
+    fn other_grants(&self, sid: u16, old: FlowSpec) -> usize
         requires good { bad_sid sid ≡ false }
-        requires live { is_live sid self.now.history ≡ true }
+        requires present { option_map (λ life. (given_in sid life).spec)
+            (life_of sid self.now.history) ≡ Some old }
+        ensures value { result ≡ other_grants self.now.config sid self.now.history }
+        ensures most { result ≤ 2560 }
+    {
+        self.periodic_grants() - usize::from(old.grants())
+    }
+
+    // The refusal of other parameters in the place of the present ones where the grants per interval would be too many.
+    fn refuse_grants(&self, sid: u16, old: FlowSpec, spec: FlowSpec) -> Option<Refusal>
+        requires good { bad_sid sid ≡ false }
+        requires present { option_map (λ life. (given_in sid life).spec)
+            (life_of sid self.now.history) ≡ Some old }
         ensures { result ≡ refused_if (is_periodic spec && nat_lt self.now.config.periodic
             (other_grants self.now.config sid self.now.history + grants_of spec)) Refusal.PeriodicFull }
     {
-        let own = self.state.book.flow(sid).map_or(0, |old| old.grants());
-        let grants = self.periodic_grants() - usize::from(own) + usize::from(spec.grants());
+        let grants = self.other_grants(sid, old) + usize::from(spec.grants());
         if is_periodic(spec) && grants > self.state.config.periodic() as usize {
             Some(Refusal::PeriodicFull)
         } else {

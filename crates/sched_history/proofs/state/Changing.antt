@@ -1,0 +1,150 @@
+-- What the fields of a scheduler say of a flow that is to have other parameters, and the fields with one change more.
+use Rattle.std.proofs.Common.{◌≡◌, ◌≢◌, ℕ, ◌+◌, ◌<◌, ◌≤◌, Bool, true, false, not, ◌==◌, if◌then◌else◌, List, [], ◌∷◌, ◌++◌}
+use Rattle.std.proofs.Common.{filter, find, Option, None, Some, refl, sym, ap, ◌∙◌, subst, inl, inr, arith}
+use Rattle.std.specs.Prelude.{is_some, IsSome, sum_by}
+use Rattle.std.specs.Option.{option_map, option_map_or, option_and_then, IfSome, IsSomeAnd, MatchOption}
+use Rattle.std.proofs.lemmas.Bool.{cases_eq}
+use Rattle.std.proofs.lemmas.Bool.Decides.{nat_tests}
+use Rattle.std.proofs.lemmas.List.Sums.{sum_by-cons}
+use Rattle.std.specs.List.{AllByRecursion}
+use Rattle.minislots.specs.declared.config.Config.{Config}
+use Rattle.minislots.specs.declared.stamp.Stamp.{Stamp}
+use Rattle.sched_calls.specs.declared.spec.FlowSpec.{FlowSpec}
+use Rattle.sched_calls.specs.declared.spec.FlowSpec.TheVariants.{Unsolicited, Polled, BestEffort}
+use Rattle.sched_calls.specs.FlowSpec.{is_periodic, is_kind_of, has_place_of, takes_requests, grants_of}
+use Rattle.flow_book.specs.Flows.{LiveFlow, flow_of}
+use Rattle.flow_book.specs.Sids.{AscendBy}
+use Rattle.flow_book.specs.Book.{BookView, Ascend, without as without_flow, changed, with_spec}
+use Rattle.sched_calls.specs.declared.placement.Placement.{Placement}
+use Rattle.periodic.specs.Placement.{Placed, IsPlacement, NoPlacement, IsToldFrom}
+use Rattle.periodic.specs.Table.{TableView, placed_at, IsPlaced, placed_grants, with_placed, without}
+use Rattle.periodic.proofs.Summed.{grants-without}
+use Rattle.sched_history.specs.declared.scheduler.state.State.{State}
+use Rattle.sched_calls.specs.declared.call.Call.TheVariants as calls
+use Rattle.sched_calls.specs.declared.reply.Reply.{Reply}
+use Rattle.sched_calls.specs.declared.reply.Reply.TheVariants as replies
+use Rattle.sched_calls.specs.declared.reply.Entry.{Entry}
+use Rattle.sched_history.specs.Life.{Admission, Life, life_of, given_in, rests_in, flow_in_life, placed_in_life, flows_of}
+use Rattle.sched_history.specs.Life.{table_of}
+use Rattle.sched_history.specs.Refusal.{bad_sid, has_live, periodic_grants, other_grants}
+use Rattle.sched_history.specs.Time.{next_after}
+use Rattle.sched_history.specs.History.{AnswersChange, IsLegal}
+use Rattle.sched_history.specs.State.{IsStateAfter}
+use Rattle.sched_history.proofs.lives.Finding.{good_sid, flow_of-flows_of, flows_of-channel, table_of-ascends}
+use Rattle.sched_history.proofs.lives.FlowsAfter.{placed_with}
+use Rattle.sched_history.proofs.flows.ChangeCall.{flows_of-change, table_of-change_placed, table_of-change_unplaced}
+use Rattle.sched_history.proofs.placements.Counts.{life_of-pairs, grants-placed_by}
+use Rattle.sched_history.proofs.placements.Given.{known-life}
+use Rattle.sched_history.proofs.time.TimeAfter.{next_after-same, progress_of-same}
+use Rattle.sched_history.proofs.reserves.ReservesAfter.{reserves_of-same}
+use Rattle.sched_history.proofs.reserves.HeaderAfter.{header_after-same}
+use Rattle.sched_history.proofs.state.Present.{flow_of-after, find-after, placement-some, without_placed-none}
+use Rattle.sched_history.proofs.steps.Passed.{IsKnown, ChangesFlow}
+
+-- flows of one kind are both periodic, or neither
+pub alike-periodic : (spec other : FlowSpec) → is_kind_of spec other ≡ true → is_periodic other ≡ is_periodic spec
+alike-periodic (Unsolicited size interval jitter grants) (Unsolicited size' interval' jitter' grants') kind = refl
+alike-periodic (Polled interval jitter rate burst) (Polled interval' jitter' rate' burst') kind = refl
+alike-periodic (BestEffort priority rate burst) (BestEffort priority' rate' burst') kind = refl
+alike-periodic spec other kind = absurd cc
+
+-- and both take requests, or neither
+pub alike-takes : (spec other : FlowSpec) → is_kind_of spec other ≡ true → takes_requests spec ≡ takes_requests other
+alike-takes (Unsolicited size interval jitter grants) (Unsolicited size' interval' jitter' grants') kind = refl
+alike-takes (Polled interval jitter rate burst) (Polled interval' jitter' rate' burst') kind = refl
+alike-takes (BestEffort priority rate burst) (BestEffort priority' rate' burst') kind = refl
+alike-takes spec other kind = absurd cc
+
+above-left : (sid : ℕ) (flows : List LiveFlow) → AllByRecursion (λ g. sid < g.sid) flows → without_flow sid flows ≡ flows
+above-left sid [] all = refl
+above-left sid (f ∷ flows) all =
+    let kept : not (f.sid == sid) ≡ true = grind (arith, nat_tests, all.0) in rw kept (ap (λ gs. f ∷ gs) (above-left sid flows all.1))
+
+found-first : (b : Bool) (g f : LiveFlow) (rest : Option LiveFlow) → (if b then Some g else rest) ≡ Some f → b ≡ true
+    → g ≡ f
+found-first true g f rest is test = cc
+found-first false g f rest is test = absurd cc
+
+found-later : (b : Bool) (g f : LiveFlow) (rest : Option LiveFlow) → (if b then Some g else rest) ≡ Some f → b ≡ false
+    → rest ≡ Some f
+found-later true g f rest is test = absurd cc
+found-later false g f rest is test = is
+
+-- the grants of one flow and of the others are all
+pub grants-others : (sid : ℕ) (f : LiveFlow) (flows : List LiveFlow) → Ascend flows → flow_of sid flows ≡ Some f
+    → sum_by (λ g. grants_of g.spec) (without_flow sid flows) + grants_of f.spec ≡ sum_by (λ g. grants_of g.spec) flows
+grants-others sid f [] up found = absurd cc
+grants-others sid f (g ∷ flows) up found =
+    let own : LiveFlow → ℕ = λ h. grants_of h.spec in
+    elim (cases_eq g.sid sid) [
+      | inl same ↦ (
+          let test : (g.sid == sid) ≡ true = grind (arith, nat_tests) in
+          let left = above-left sid flows (subst (λ n. AllByRecursion (λ h. n < h.sid) flows) same up.0) in
+          let first = found-first (g.sid == sid) g f (flow_of sid flows) found test in
+          rw (test, left) (omega (arith, sum_by-cons own g flows, ap own first)))
+      | inr other ↦ (
+          let test : (g.sid == sid) ≡ false = grind (arith, nat_tests) in
+          let later = found-later (g.sid == sid) g f (flow_of sid flows) found test in
+          rw test (omega (
+            arith,
+            sum_by-cons own g (without_flow sid flows),
+            sum_by-cons own g flows,
+            grants-others sid f flows up.1 later,
+          )))
+    ]
+
+-- a life with these parameters
+some-of : (sid : ℕ) (o : Option Life) (old : FlowSpec) → option_map (λ life. (given_in sid life).spec) o ≡ Some old
+    → (life : Life) × (o ≡ Some life) × ((given_in sid life).spec ≡ old)
+some-of sid None old is = absurd cc
+some-of sid (Some life) old is = (life, refl, cc)
+
+-- the grants of the other flows, and those of the flow with these parameters, are all
+pub other-grants : (c : Config) (h : List Entry) (sid : ℕ) (old : FlowSpec) → bad_sid sid ≡ false
+    → option_map (λ life. (given_in sid life).spec) (life_of sid h) ≡ Some old
+    → other_grants c sid h + grants_of old ≡ periodic_grants c h
+other-grants c h sid old good is =
+    let life = some-of sid (life_of sid h) old is in
+    let found : flow_of sid (flows_of c h) ≡ Some (flow_in_life c sid life.0) =
+    flow_of-flows_of c sid h (good_sid sid good).0 (good_sid sid good).1
+    ∙ ap (option_map (flow_in_life c sid)) life.1 in
+    let all = grants-others sid (flow_in_life c sid life.0) (flows_of c h) (flows_of-channel c h).ascend found in
+    omega (arith, all, ap grants_of life.2)
+
+module _ (s : State) (h : List Entry) (sid : ℕ) (is_after : IsStateAfter s h) (legal : IsLegal s.config h)
+    (known : IsKnown h sid) where
+  -- its life
+  pub known-in : (life : Life) × (life_of sid h ≡ Some life)
+  known-in = known-life sid h known
+
+  -- what it was given
+  abbrev pub given : Admission
+  given = given_in sid known-in.0
+
+  -- its flow
+  pub flow-known : flow_of sid s.book.flows ≡ Some (flow_in_life s.config sid known-in.0)
+  flow-known = flow_of-after s h sid is_after known.good ∙ ap (option_map (flow_in_life s.config sid)) known-in.1
+
+  -- and its placement
+  pub placed-known : find (λ p. p.sid == sid) s.table.placed
+      ≡ option_map (placed_with sid given.spec (rests_in sid known-in.0.since)) given.placement
+  placed-known = find-after s h sid is_after known.good ∙ ap (option_and_then (placed_in_life sid)) known-in.1
+
+  -- it is placed where it is periodic
+  pub is-placed : is_periodic given.spec ≡ true → IsPlaced sid s.table.placed
+  is-placed periodic =
+      rw placed-known (placement-some sid given.spec (rests_in sid known-in.0.since) given.placement
+      (life_of-pairs s.config h sid known-in.0 legal known-in.1 ∙ periodic))
+
+  -- the grants of the other flows and its own are all
+  pub others-known : other_grants s.config sid h + grants_of given.spec ≡ periodic_grants s.config h
+  others-known =
+      other-grants s.config h sid given.spec known.good (ap (option_map (λ life. (given_in sid life).spec)) known-in.1)
+
+  -- so have the other placed flows
+  pub placed-others : (f : Placed) → find (λ p. p.sid == sid) s.table.placed ≡ Some f → f.spec ≡ given.spec
+      → placed_grants (without sid s.table.placed) ≡ other_grants s.config sid h
+  placed-others f found same =
+      let up : AscendBy (λ p. p.sid) s.table.placed = rw is_after.placed (table_of-ascends h) in
+      let rest = grants-without sid f s.table.placed found up in
+      omega (arith, rest, others-known, ap grants_of same, grants-placed_by s h is_after legal)
