@@ -30,3 +30,4 @@ pub mod Counting
 pub mod Resting
 pub mod Rests
 pub mod Told
+pub mod Moved

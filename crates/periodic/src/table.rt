@@ -13,6 +13,8 @@ ghost use Rattle.periodic.specs.Search.{chosen_placement};
 ghost use Rattle.periodic.specs.Table.{placed_grants, IsPlaced, IsNotPlaced, HasPlacement, placed_at, with_placed};
 ghost use Rattle.periodic.specs.Table.{without, with_rest, HasRoomToPoll, AreSound, IsWithinFrame, FollowInTurn};
 
+mod moving;
+
 use crate::MAX_SPOTS;
 use crate::adopt::is_lawful;
 use crate::bits::Bits;
