@@ -31,3 +31,4 @@ pub mod Resting
 pub mod Rests
 pub mod Told
 pub mod Moved
+pub mod Kept

@@ -1,5 +1,5 @@
 -- What callers see of a scheduler, when it is full, and which of its calls may lack memory.
-use Rattle.std.specs.Prelude.{◌≡◌, ℕ, Bool, true, false, ◌||◌, nat_le, List, length, drop, None, MatchOption}
+use Rattle.std.specs.Prelude.{◌≡◌, ℕ, ◌⊎◌, Bool, true, ◌||◌, nat_le, List, length, drop, None, MatchOption}
 use Rattle.minislots.specs.declared.config.Config.{Config}
 use Rattle.sched_calls.specs.declared.spec.FlowSpec.{FlowSpec}
 use Rattle.sched_calls.specs.declared.spec.FlowSpec.TheVariants.{Unsolicited, Polled, BestEffort}
@@ -47,12 +47,14 @@ IsPlaceable c h (Polled interval jitter rate burst) =
     (p : Placement) × IsPlacement c (table_of h) (Polled interval jitter rate burst) (next_after c h) p
 IsPlaceable c h (BestEffort priority rate burst) = Unit {0}
 
--- a change of a flow that was given this places it anew, and a place beside the others exists
-abbrev pub MovesPlace : Config → List Entry → ℕ → Admission → FlowSpec → Type 0
-MovesPlace c h sid given spec = (has_place_of given.spec spec ≡ false) × (is_periodic spec ≡ true)
-    × ((p : Placement) × IsPlacement c (without sid (table_of h)) spec (next_after c h) p)
+-- a change of a flow that was given this answers a placement: the one that it keeps, or one beside the others, where
+-- there is one
+abbrev pub TellsPlace : Config → List Entry → ℕ → Admission → FlowSpec → Type 0
+TellsPlace c h sid given spec = (has_place_of given.spec spec ≡ true) ⊎ ((is_periodic spec ≡ true)
+    × ((p : Placement) × IsPlacement c (without sid (table_of h)) spec (next_after c h) p))
 
--- the call takes memory where no test refuses it: an admission with a place, a change that places anew, or a build
+-- the call takes memory where no test refuses it: an admission with a place, a change that answers a
+-- placement, or a build
 abbrev pub TakesMemory : Config → List Entry → Call → Type 0
 TakesMemory c h (Admit sid spec) = IsPlaceable c h spec
 TakesMemory c h (Remove sid) = ⊥
@@ -64,7 +66,7 @@ TakesMemory c h (Status sid) = ⊥
 TakesMemory c h (Reserve usage slots) = ⊥
 TakesMemory c h (Header header) = ⊥
 TakesMemory c h (Replace receiver sid amount heard) = ⊥
-TakesMemory c h (Change sid spec) = MatchOption (life_of sid h) ⊥ (λ life. MovesPlace c h sid (given_in sid life) spec)
+TakesMemory c h (Change sid spec) = MatchOption (life_of sid h) ⊥ (λ life. TellsPlace c h sid (given_in sid life) spec)
 TakesMemory c h (Rest sid) = ⊥
 TakesMemory c h (Wake sid) = ⊥
 

@@ -11,6 +11,7 @@ ghost use Rattle.sched_history.specs.Planned.{IsPlanAfter};
 ghost use Rattle.sched_history.specs.Refusal.{refusal_of};
 
 mod answering;
+mod changing;
 mod following;
 mod handing_over;
 mod planned;

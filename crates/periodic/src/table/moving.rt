@@ -10,7 +10,7 @@ ghost use Rattle.periodic.specs.Bits.{bit_for};
 ghost use Rattle.periodic.specs.Rows.{row_at, AreMarked, AreBounds};
 ghost use Rattle.periodic.specs.Counts.{AreCounted, MayCount};
 ghost use Rattle.periodic.specs.Fields.{placed_of, placement_at, KeepsTimes, IsSoundFlow};
-ghost use Rattle.periodic.specs.Search.{chosen_placement};
+ghost use Rattle.periodic.specs.Search.{chosen_placement, IsReference};
 ghost use Rattle.periodic.specs.Table.{placed_grants, placed_at, IsPlaced, HasPlacement, with_placed, without};
 
 use super::{Table, place_of};
@@ -42,9 +42,8 @@ impl Table {
         };
         let flow = &self.flows[place];
         let starts = Vec::from_slice(*self.flows.allocator(), flow.placement.starts.as_slice())?;
-        let offset = flow.placement.reference % u64::from(self.config.frame());
         Ok(Placement {
-            reference: first_nominal(&self.config, flow.interval, next, flow.phase, offset),
+            reference: reference_from(&self.config, flow, next),
             starts: Starts::from_vec(starts),
         })
     }
@@ -55,6 +54,7 @@ impl Table {
         requires placed { IsPlaced sid self.now.placed }
         requires alike { IfSome (find (λ f. f.sid == sid) self.now.placed)
             (λ f. has_place_of f.spec spec.now ≡ true) }
+        requires aligned { next % self.now.config.frame ≡ 0 }
         requires most { next ≤ 2 ^ 61 }
         ensures told { result ≡ true → IfSome (find (λ f. f.sid == sid) self.now.placed)
             (λ f. IsToldFrom self.now.config spec.now next f.placement placement.now) }
@@ -65,12 +65,10 @@ impl Table {
             return false;
         };
         let flow = &self.flows[place];
-        let frame = u64::from(self.config.frame());
+        if placement.reference != reference_from(&self.config, flow, next) {
+            return false;
+        }
         placement.starts.as_slice() == flow.placement.starts.as_slice()
-            && next <= placement.reference
-            && placement.reference - next < flow.interval * frame
-            && placement.reference / frame % flow.interval == flow.phase
-            && placement.reference % frame == flow.placement.reference % frame
     }
 
     /// Gives a placed flow other parameters, by which it may stand where it stands, with its placement as it was told.
@@ -289,6 +287,18 @@ impl Table {
         self.grants += flow.grants;
         self.flows[place] = flow;
     }
+}
+
+// The first nominal time of a placed flow at or after the start of a frame.
+fn reference_from(config: &Checked, flow: &PlacedFlow, next: u64) -> u64
+    requires sound { IsSoundFlow config.now flow.now }
+    requires aligned { next % config.now.frame ≡ 0 }
+    requires most { next ≤ 2 ^ 61 }
+    ensures { IsReference config.now flow.now.interval next flow.now.phase
+        (flow.now.placement.reference % config.now.frame) result }
+{
+    let offset = flow.placement.reference % u64::from(config.frame());
+    first_nominal(config, flow.interval, next, flow.phase, offset)
 }
 
 // Takes the minislots and the starts of a flow out of the rows and the counts, or puts them in.

@@ -1,5 +1,5 @@
 -- What the fields of a scheduler say of a flow that is to have other parameters, and the fields with one change more.
-use Rattle.std.proofs.Common.{◌≡◌, ◌≢◌, ℕ, ◌+◌, ◌<◌, ◌≤◌, Bool, true, false, not, ◌==◌, if◌then◌else◌, List, [], ◌∷◌, ◌++◌}
+use Rattle.std.proofs.Common.{◌≡◌, ◌≢◌, ℕ, ◌+◌, ◌%◌, ◌^◌, ◌<◌, ◌≤◌, Bool, true, false, not, ◌==◌, if◌then◌else◌, List, [], ◌∷◌, ◌++◌}
 use Rattle.std.proofs.Common.{filter, find, Option, None, Some, refl, sym, ap, ◌∙◌, subst, inl, inr, arith}
 use Rattle.std.specs.Prelude.{is_some, IsSome, sum_by}
 use Rattle.std.specs.Option.{option_map, option_map_or, option_and_then, IfSome, IsSomeAnd, MatchOption}
@@ -8,38 +8,34 @@ use Rattle.std.proofs.lemmas.Bool.Decides.{nat_tests}
 use Rattle.std.proofs.lemmas.List.Sums.{sum_by-cons}
 use Rattle.std.specs.List.{AllByRecursion}
 use Rattle.minislots.specs.declared.config.Config.{Config}
-use Rattle.minislots.specs.declared.stamp.Stamp.{Stamp}
 use Rattle.sched_calls.specs.declared.spec.FlowSpec.{FlowSpec}
 use Rattle.sched_calls.specs.declared.spec.FlowSpec.TheVariants.{Unsolicited, Polled, BestEffort}
 use Rattle.sched_calls.specs.FlowSpec.{is_periodic, is_kind_of, has_place_of, takes_requests, grants_of}
+use Rattle.sched_calls.specs.FlowSpec.{first_fault}
 use Rattle.flow_book.specs.Flows.{LiveFlow, flow_of}
 use Rattle.flow_book.specs.Sids.{AscendBy}
-use Rattle.flow_book.specs.Book.{BookView, Ascend, without as without_flow, changed, with_spec}
+use Rattle.flow_book.specs.Book.{Ascend, IsLive, without as without_flow}
 use Rattle.sched_calls.specs.declared.placement.Placement.{Placement}
 use Rattle.periodic.specs.Placement.{Placed, IsPlacement, NoPlacement, IsToldFrom}
-use Rattle.periodic.specs.Table.{TableView, placed_at, IsPlaced, placed_grants, with_placed, without}
+use Rattle.periodic.specs.Table.{IsPlaced, placed_grants, without}
 use Rattle.periodic.proofs.Summed.{grants-without}
 use Rattle.sched_history.specs.declared.scheduler.state.State.{State}
 use Rattle.sched_calls.specs.declared.call.Call.TheVariants as calls
 use Rattle.sched_calls.specs.declared.reply.Reply.{Reply}
-use Rattle.sched_calls.specs.declared.reply.Reply.TheVariants as replies
 use Rattle.sched_calls.specs.declared.reply.Entry.{Entry}
 use Rattle.sched_history.specs.Life.{Admission, Life, life_of, given_in, rests_in, flow_in_life, placed_in_life, flows_of}
 use Rattle.sched_history.specs.Life.{table_of}
 use Rattle.sched_history.specs.Refusal.{bad_sid, has_live, periodic_grants, other_grants}
 use Rattle.sched_history.specs.Time.{next_after}
-use Rattle.sched_history.specs.History.{AnswersChange, IsLegal}
-use Rattle.sched_history.specs.State.{IsStateAfter}
+use Rattle.sched_history.specs.History.{AnswersChange, Answers, IsLegal}
+use Rattle.sched_history.specs.Machine.{TellsPlace, TakesMemory}
+use Rattle.sched_history.specs.State.{IsStateAfter, IsOpenTo}
 use Rattle.sched_history.proofs.lives.Finding.{good_sid, flow_of-flows_of, flows_of-channel, table_of-ascends}
 use Rattle.sched_history.proofs.lives.FlowsAfter.{placed_with}
-use Rattle.sched_history.proofs.flows.ChangeCall.{flows_of-change, table_of-change_placed, table_of-change_unplaced}
 use Rattle.sched_history.proofs.placements.Counts.{life_of-pairs, grants-placed_by}
 use Rattle.sched_history.proofs.placements.Given.{known-life}
-use Rattle.sched_history.proofs.time.TimeAfter.{next_after-same, progress_of-same}
-use Rattle.sched_history.proofs.reserves.ReservesAfter.{reserves_of-same}
-use Rattle.sched_history.proofs.reserves.HeaderAfter.{header_after-same}
-use Rattle.sched_history.proofs.state.Present.{flow_of-after, find-after, placement-some, without_placed-none}
-use Rattle.sched_history.proofs.steps.Passed.{IsKnown, ChangesFlow}
+use Rattle.sched_history.proofs.state.Present.{flow_of-after, find-after, placement-some, IsLive-after}
+use Rattle.sched_history.proofs.steps.Passed.{IsKnown, ChangesFlow, passed-change}
 
 -- flows of one kind are both periodic, or neither
 pub alike-periodic : (spec other : FlowSpec) → is_kind_of spec other ≡ true → is_periodic other ≡ is_periodic spec
@@ -148,3 +144,145 @@ module _ (s : State) (h : List Entry) (sid : ℕ) (is_after : IsStateAfter s h) 
       let up : AscendBy (λ p. p.sid) s.table.placed = rw is_after.placed (table_of-ascends h) in
       let rest = grants-without sid f s.table.placed found up in
       omega (arith, rest, others-known, ap grants_of same, grants-placed_by s h is_after legal)
+
+-- what holds of the parameters of a life holds of those of its flow
+of-life : (test : FlowSpec → Bool) (o : Option Life) (life : Life) (sid : ℕ) (b : Bool) → o ≡ Some life
+    → option_map_or (λ l. test (given_in sid l).spec) o false ≡ b → test (given_in sid life).spec ≡ b
+of-life test o life sid b lives is = rw lives at is
+
+-- a placement that stands
+some-placement : (o : Option Placement) → is_some o ≡ true → (p : Placement) × (o ≡ Some p)
+some-placement None is = absurd cc
+some-placement (Some p) is = (p, refl)
+
+-- What is known where a change is open
+module _ (s : State) (h : List Entry) (sid : ℕ) (spec : FlowSpec) (opens : IsOpenTo s (calls.Change sid spec) h) where
+  abbrev pub may : ChangesFlow s.config h sid spec
+  may = passed-change s.config h sid spec opens.unrefused
+
+  -- its life
+  abbrev pub life : (life : Life) × (life_of sid h ≡ Some life)
+  life = known-in s h sid opens.is_after opens.legal may.known
+
+  -- what it was given
+  abbrev pub had : Admission
+  had = given_in sid life.0
+
+  kind : is_kind_of spec had.spec ≡ true
+  kind = of-life (is_kind_of spec) (life_of sid h) life.0 sid true life.1 may.kind
+
+  -- it is periodic as before
+  pub had-periodic : is_periodic had.spec ≡ is_periodic spec
+  had-periodic = alike-periodic spec had.spec kind
+
+  -- its flow
+  pub change-found : flow_of sid s.book.flows ≡ Some (flow_in_life s.config sid life.0)
+  change-found = flow-known s h sid opens.is_after opens.legal may.known
+
+  -- and placement
+  pub change-placed : find (λ p. p.sid == sid) s.table.placed
+      ≡ option_map (placed_with sid had.spec (rests_in sid life.0.since)) had.placement
+  change-placed = placed-known s h sid opens.is_after opens.legal may.known
+
+  -- it is live
+  pub change-live : IsLive sid s.book.flows
+  change-live = IsLive-after s h sid opens.is_after may.known
+
+  -- and asks as before
+  pub change-kind : IfSome (flow_of sid s.book.flows) (λ f. takes_requests spec ≡ takes_requests f.spec)
+  change-kind = rw change-found (alike-takes spec had.spec kind)
+
+  -- it has no fault
+  pub change-fault : first_fault s.table.config spec ≡ None
+  change-fault = rw opens.is_after.table_config may.no_fault
+
+  -- the next frame starts in time
+  pub change-aligned : s.next % s.table.config.frame ≡ 0
+  change-aligned = rw opens.is_after.table_config opens.bounded.aligned
+
+  pub change-next : s.next ≤ 2 ^ 61
+  change-next = omega (arith, opens.bounded.next_most)
+
+  -- whether it keeps its place is told by its flow
+  pub had-place : (b : Bool) → IfSome (flow_of sid s.book.flows) (λ f. has_place_of f.spec spec ≡ b)
+      → has_place_of had.spec spec ≡ b
+  had-place b is = rw change-found at is
+
+  -- an answer of a flow that was given this is the answer
+  pub answers-given : (reply : Reply) → AnswersChange s.config h sid had spec reply
+      → Answers s.config h (calls.Change sid spec) reply
+  answers-given reply answers = subst
+      (λ o. MatchOption o ⊥ (λ l. AnswersChange s.config h sid (given_in sid l) spec reply)) (sym life.1) answers
+
+  -- and the other way round
+  pub given-answers : (reply : Reply) → Answers s.config h (calls.Change sid spec) reply
+      → AnswersChange s.config h sid had spec reply
+  given-answers reply answers = subst
+      (λ o. MatchOption o ⊥ (λ l. AnswersChange s.config h sid (given_in sid l) spec reply)) life.1 answers
+
+  -- memory is taken where a placement is told
+  pub takes-given : TellsPlace s.config h sid had spec → TakesMemory s.config h (calls.Change sid spec)
+  takes-given tells = subst (λ o. MatchOption o ⊥ (λ l. TellsPlace s.config h sid (given_in sid l) spec)) (sym life.1) tells
+
+  module _ (periodic : is_periodic spec ≡ true) where
+    -- its placement stands
+    pub had-placement : (p : Placement) × (had.placement ≡ Some p)
+    had-placement = some-placement had.placement
+        (life_of-pairs s.config h sid life.0 opens.legal life.1 ∙ had-periodic ∙ periodic)
+
+    -- it is placed so
+    pub change-at : find (λ p. p.sid == sid) s.table.placed
+        ≡ Some (placed_with sid had.spec (rests_in sid life.0.since) had-placement.0)
+    change-at = change-placed ∙ ap (option_map (placed_with sid had.spec (rests_in sid life.0.since))) had-placement.1
+
+    pub change-is_placed : IsPlaced sid s.table.placed
+    change-is_placed = rw change-at refl
+
+    -- there is room for its grants beside the others
+    pub change-room : placed_grants (without sid s.table.placed) + grants_of spec ≤ s.table.config.periodic
+    change-room =
+        let others = placed-others s h sid opens.is_after opens.legal may.known
+        (placed_with sid had.spec (rests_in sid life.0.since) had-placement.0) change-at refl in
+        omega (arith, others, may.few_grants periodic, ap (λ k. k.periodic) opens.is_after.table_config)
+
+    -- it keeps its place in the table too
+    pub change-alike : has_place_of had.spec spec ≡ true
+        → IfSome (find (λ p. p.sid == sid) s.table.placed) (λ f. has_place_of f.spec spec ≡ true)
+    change-alike same = rw change-at same
+
+    -- the placement that is told of the table is the one that is kept
+    pub kept-told : (p : Placement)
+        → IfSome (find (λ f. f.sid == sid) s.table.placed) (λ f. IsToldFrom s.table.config spec s.next f.placement p)
+        → IsSomeAnd had.placement (λ stands. IsToldFrom s.config spec (next_after s.config h) stands p)
+    kept-told p told =
+        let at : IsToldFrom s.table.config spec s.next had-placement.0 p = rw change-at at told in
+        rw had-placement.1
+        (subst (λ n. IsToldFrom s.config spec n had-placement.0 p) opens.is_after.next
+        (subst (λ k. IsToldFrom k spec s.next had-placement.0 p) opens.is_after.table_config at))
+
+    -- and the other way round
+    pub told-kept : (p : Placement)
+        → IsSomeAnd had.placement (λ stands. IsToldFrom s.config spec (next_after s.config h) stands p)
+        → IfSome (find (λ f. f.sid == sid) s.table.placed) (λ f. IsToldFrom s.table.config spec s.next f.placement p)
+    told-kept p told =
+        let at : IsToldFrom s.config spec (next_after s.config h) had-placement.0 p = rw had-placement.1 at told in
+        rw change-at
+        (subst (λ k. IsToldFrom k spec s.next had-placement.0 p) (sym opens.is_after.table_config)
+        (subst (λ n. IsToldFrom s.config spec n had-placement.0 p) (sym opens.is_after.next) at))
+
+    -- a placement beside the others in the table is one after the history
+    pub beside : (p : Placement) → IsPlacement s.table.config (without sid s.table.placed) spec s.next p
+        → IsPlacement s.config (without sid (table_of h)) spec (next_after s.config h) p
+    beside p lawful =
+        subst (λ n. IsPlacement s.config (without sid (table_of h)) spec n p) opens.is_after.next
+        (subst (λ ps. IsPlacement s.config (without sid ps) spec s.next p) opens.is_after.placed
+        (subst (λ k. IsPlacement k (without sid s.table.placed) spec s.next p) opens.is_after.table_config lawful))
+
+    -- and the other way round
+    pub beside-table : (p : Placement) → IsPlacement s.config (without sid (table_of h)) spec (next_after s.config h) p
+        → IsPlacement s.table.config (without sid s.table.placed) spec s.next p
+    beside-table p lawful =
+        subst (λ k. IsPlacement k (without sid s.table.placed) spec s.next p) (sym opens.is_after.table_config)
+        (subst (λ ps. IsPlacement s.config (without sid ps) spec s.next p) (sym opens.is_after.placed)
+        (subst (λ n. IsPlacement s.config (without sid (table_of h)) spec n p) (sym opens.is_after.next) lawful))
+

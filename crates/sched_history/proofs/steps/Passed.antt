@@ -309,3 +309,21 @@ passed-reserve c h usage slots e =
       within = within (c.frame - c.req_slots) slots lengths.1;
       room = above MAX_RESERVES (length (reserves_of h)) past_room.0;
     }
+
+-- where three tests do not refuse the others do
+three-passed : (a b c rest : Option Refusal) → option_or a (option_or b (option_or c None)) ≡ None
+    → option_or a (option_or b (option_or c rest)) ≡ rest
+three-passed None None None rest is = refl
+three-passed None None (Some r) rest is = absurd cc
+three-passed None (Some r) c rest is = absurd cc
+three-passed (Some r) b c rest is = absurd cc
+
+-- the other tests of an asker that is not refused for its SID
+pub asker-passed : (sid : ℕ) (h : List Entry) (rest : Option Refusal)
+    → option_or (refused_if (bad_sid sid) BadSid)
+    (option_or (refused_if (not (is_live sid h)) NoFlow) (option_or (refused_if (is_silent sid h) NotAsking) None)) ≡ None
+    → option_or (refused_if (bad_sid sid) BadSid)
+    (option_or (refused_if (not (is_live sid h)) NoFlow) (option_or (refused_if (is_silent sid h) NotAsking) rest)) ≡ rest
+asker-passed sid h rest is =
+    three-passed (refused_if (bad_sid sid) BadSid) (refused_if (not (is_live sid h)) NoFlow)
+    (refused_if (is_silent sid h) NotAsking) rest is

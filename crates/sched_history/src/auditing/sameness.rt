@@ -102,6 +102,17 @@ pub(crate) fn placement_in(reply: &Reply) -> Option<&Placement>
     }
 }
 
+// The placement of a change.
+pub(crate) fn changed_placement_in(reply: &Reply) -> Option<&Placement>
+    ensures found { IfSome result (λ p. reply.now ≡ Reply.Changed (Some p.now)) }
+    ensures absent { IfNone result ((p : Placement) → reply.now ≢ Reply.Changed (Some p)) }
+{
+    match reply {
+        Reply::Changed(Some(placement)) => Some(placement),
+        _ => None,
+    }
+}
+
 // The MAP of a build.
 pub(crate) fn map_in(reply: &Reply) -> Option<&FrameMap>
     ensures found { IfSome result (λ m. reply.now ≡ Reply.Built m.now) }

@@ -100,21 +100,6 @@ impl State {
         }
     }
 
-    // Gives a flow other parameters. A periodic flow that leaves what places it keeps its placement, any other is
-    // placed anew.
-    fn change(&mut self, _alloc: Global, sid: u16, spec: FlowSpec) -> Result<Answer, AllocError>
-        requires { IsOpen self.old (Call.Change sid spec) }
-        ensures answered { IfOk result (AnswersOpen self.old self.new (Call.Change sid spec)) }
-        ensures err { OnErr result (self.new ≡ self.old) }
-        ensures memory { OnErr result (TakesMemoryOpen self.old (Call.Change sid spec)) }
-    {
-        self.book.change(sid, spec);
-        Ok(Answer {
-            reply: Reply::Changed(None),
-            kept: Reply::Changed(None),
-        })
-    }
-
     // Admits a flow that has no place in the cycle.
     fn admit_best_effort(&mut self, sid: u16, spec: FlowSpec) -> Result<Answer, AllocError>
         requires open { IsOpen self.old (Call.Admit sid spec) }

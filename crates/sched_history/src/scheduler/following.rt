@@ -101,28 +101,6 @@ impl State {
         Ok(is_refused(reply, Refusal::NoPlace) && self.has_no_place(sid, spec))
     }
 
-    // Follows a change of a periodic flow: the reply has the placement that it keeps or a lawful one, or says that there
-    // is none.
-    fn follow_change(
-        &mut self,
-        sid: u16,
-        spec: FlowSpec,
-        _reply: &Reply,
-    ) -> Result<bool, AllocError>
-        requires open { IsOpen self.old (Call.Change sid spec) }
-        requires periodic { is_periodic spec ≡ true }
-        ensures follows { IfOk result (λ is. is ≡ true →
-            FollowsOpen self.old self.new (Call.Change sid spec) _reply.now) }
-        ensures differs { IfOk result
-            (λ is. is ≡ false → DiffersOpen self.old (Call.Change sid spec) _reply.now) }
-        ensures same { IfOk result (λ is. is ≡ false → self.new ≡ self.old) }
-        ensures err { OnErr result (self.new ≡ self.old) }
-        ensures memory { OnErr result (TakesMemoryOpen self.old (Call.Change sid spec)) }
-    {
-        self.book.change(sid, spec);
-        Ok(true)
-    }
-
     // Whether this placement is lawful for the flow. Where it is, the flow is admitted with it.
     fn adopt(&mut self, sid: u16, spec: FlowSpec, placement: &Placement) -> Result<bool, AllocError>
         requires open { IsOpen self.old (Call.Admit sid spec) }

@@ -126,10 +126,7 @@ impl<'a> Present<'a> {
                 sid,
                 amount,
                 heard,
-            } => match self.refuse_asker(sid) {
-                Some(refusal) => Some(refusal),
-                None => self.refuse_replacement(receiver, amount, heard),
-            },
+            } => self.refuse_replace(receiver, sid, amount, heard),
             Call::Change(sid, spec) => self.refuse_change(sid, spec),
             Call::Rest(sid) => self.refuse_rest(sid),
             Call::Wake(sid) => self.refuse_voice(sid),
@@ -290,6 +287,23 @@ impl<'a> Present<'a> {
             None => Some(Refusal::NoFlow),
             Some(spec) if !takes_requests(spec) => Some(Refusal::NotAsking),
             Some(_) => None,
+        }
+    }
+
+    // The refusal of a request that replaces others.
+    fn refuse_replace(
+        &self,
+        receiver: u8,
+        sid: u16,
+        amount: Amount,
+        heard: u64,
+    ) -> Option<Refusal>
+        ensures { result ≡ refusal_of self.now.config self.now.history
+            (Call.Replace receiver sid amount heard) }
+    {
+        match self.refuse_asker(sid) {
+            Some(refusal) => Some(refusal),
+            None => self.refuse_replacement(receiver, amount, heard),
         }
     }
 

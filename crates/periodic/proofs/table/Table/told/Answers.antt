@@ -1,0 +1,21 @@
+-- The reference is the first nominal time.
+use Rattle.std.proofs.Common.{◌≡◌, refl, sym, ap, ◌∙◌, ◌==◌, position, None, Some, arith}
+use Rattle.periodic.specs.declared.spots.PlacedFlow.{PlacedFlow}
+use Rattle.periodic.proofs.Fields.{sound-flow}
+use Rattle.periodic.proofs.Kept.{told-by}
+use Rattle.periodic.proofs.Moved.{at-place, stands-within}
+use Rattle.periodic.proofs.Standing.{flow-found}
+use Rattle.periodic.proofs.table.Table.told.Goals as goal
+
+pub reference_from-requires-clause-sound : goal.reference_from-requires-clause-sound
+reference_from-requires-clause-sound c =
+    let a = c.self.inside in
+    let stands = at-place c.args.sid a.flows.items _ _ c.in-Some.place c.deref.ensures.value c.place_of.ensures
+    c.in-Some.is in
+    let flow = c.index-flow.result.now in
+    sound-flow a.config a.flows.items c.in-Some.place flow
+    (stands-within c.args.sid a.flows.items c.in-Some.place flow stands c.index-flow.ensures) c.index-flow.ensures
+    c.self.invariant.sound.each c.self.invariant.times
+
+pub returns : goal.returns
+returns c = ?
