@@ -21,6 +21,7 @@ use Rattle.periodic.specs.Search.{IsReference}
 use Rattle.periodic.specs.Table.{placed_grants, placed_at, with_placed, without, Ascend, IsSoundPlaced}
 use Rattle.periodic.specs.Fields.{placed_of, KeepsTimes, IsSoundFlow, AreSoundFields}
 use Rattle.periodic.proofs.Fields.{sound-flow}
+use Rattle.periodic.proofs.Parameters.{places_of}
 use Rattle.periodic.proofs.Moved.{stands-within, put-anew}
 use Rattle.periodic.proofs.Told.{ArePlacedAlike, alike-placed, spots-told, sound-told}
 
@@ -67,6 +68,12 @@ one-reference c f next phase offset r s some is other =
             omega (arith, times, div-add-mod' r w, div-add-mod' s w, rests))
       ]
     ]
+
+-- an interval has frames
+pub sound-interval : (c : Config) (f : PlacedFlow) → IsSoundFlow c f → 0 < f.interval
+sound-interval c f sound =
+    let places = places_of c f.spec sound.times.lawful sound.sound.periodic sound.sound.no_fault in
+    omega (arith, sound.times.interval, places.interval_positive)
 
 module _ (c : Config) (f : PlacedFlow) (spec : FlowSpec) (next : ℕ) (sound : IsSoundFlow c f)
     (same : has_place_of f.spec spec ≡ true) where
@@ -176,8 +183,8 @@ module _ (c : Config) (sid : ℕ) (items : List PlacedFlow) (i : ℕ) (f g : Pla
       let phase : f.phase ≡ phase_of c spec p = sym (told.phase ∙ stands-phase c f spec next kept-sound same) in
       record {
         sound = record {
-          ascending = rw moved (ascends-set placed i q d lt (ap (λ (h : Placed). h.sid) (made-of ∙ sym here))
-              are.sound.ascending);
+          ascending = rw moved (ascends-set placed i q d lt (ap (λ (h : Placed). h.sid) made-of
+              ∙ sym (ap (λ (h : Placed). h.sid) here)) are.sound.ascending);
           most = rw (moved, many) are.sound.most;
           each = rw moved (all-set (IsSoundPlaced c) placed i q are.sound.each (rw made-of
               (sound-told c f.spec spec f.placement p next alike told (placed_of f) refl refl none kept-sound.sound)));

@@ -57,7 +57,7 @@ module _ (sid : ℕ) (items : List PlacedFlow) (i : ℕ) (f : PlacedFlow)
   pub stands-within : i < length items
   stands-within = (position-Some (λ (g : PlacedFlow). g.sid == sid) items i f stands).0
 
-  own : f.sid ≡ sid
+  pub own : f.sid ≡ sid
   own =
       let test : (f.sid == sid) ≡ true = rw is (position-Some (λ (g : PlacedFlow). g.sid == sid) items i f stands).1 in
       grind (arith, nat_tests)
@@ -148,75 +148,75 @@ module _ (c : Config) (sid : ℕ) (items : List PlacedFlow) (i : ℕ) (f : Place
       are.sound.ascending
 
   module _ (out : List Bits) (bound fewer : List ℕ) (lifted : IsLifted c (placed_of f) 0 false rows out bound counts fewer)
-      where
-    lift-counts : AreCounts c (without sid table) fewer
-    lift-counts = counts-without c sid (placed_of f) table counts are.counted (flow-found sid items i f stands is)
-        are.sound.ascending fewer lifted.counted
+    where
+      lift-counts : AreCounts c (without sid table) fewer
+      lift-counts = counts-without c sid (placed_of f) table counts are.counted (flow-found sid items i f stands is)
+          are.sound.ascending fewer lifted.counted
 
-    -- without it the fields are those of the others
-    pub lift-others : AreSoundFields c (filter (λ g. not (g.sid == sid)) items) out bound fewer (grants - f.grants)
-    lift-others = fields-others sid items i f stands is c rows out [] most bound [] counts fewer [] grants are lifted.long
-        lifted.bounded lifted.marked lift-counts
+      -- without it the fields are those of the others
+      pub lift-others : AreSoundFields c (filter (λ g. not (g.sid == sid)) items) out bound fewer (grants - f.grants)
+      lift-others = fields-others sid items i f stands is c rows out [] most bound [] counts fewer [] grants are lifted.long
+          lifted.bounded lifted.marked lift-counts
 
-    -- they tell of the others
-    pub others-placed : map placed_of (filter (λ g. not (g.sid == sid)) items) ≡ without sid table
-    others-placed = map-filter placed_of (λ (g : Placed). not (g.sid == sid)) items
+      -- they tell of the others
+      pub others-placed : map placed_of (filter (λ g. not (g.sid == sid)) items) ≡ without sid table
+      others-placed = map-filter placed_of (λ (g : Placed). not (g.sid == sid)) items
 
-    -- its starts may be put in again
-    pub back-may : MayCount c (placed_of f) true fewer
-    back-may place low =
-        omega (arith, lifted.counted place low, are.counted place low, are.sound.few place)
+      -- its starts may be put in again
+      pub back-may : MayCount c (placed_of f) true fewer
+      back-may place low =
+          omega (arith, lifted.counted place low, are.counted place low, are.sound.few place)
 
-    -- put in again they leave the fields as sound
-    pub back-fields : (back : List Bits) (bounds tally : List ℕ)
-        → IsLifted c (placed_of f) 1 true out back bounds fewer tally → AreSoundFields c items back bounds tally grants
-    back-fields back bounds tally put =
-        let same = put-back sid items i f stands is are.sound.ascending in
-        fields-put sid items i f stands is c rows out back most bound bounds counts fewer tally grants are lifted.long
-        lifted.bounded lifted.marked lift-counts items (placed_of f) grants put.long put.bounded same
-        (rw (← same) are.sound) are.times put.marked
-        (counts-with c (placed_of f) (without sid table) fewer lift-counts tally put.counted)
-        (are.summed ∙ ap placed_grants same)
+      -- put in again they leave the fields as sound
+      pub back-fields : (back : List Bits) (bounds tally : List ℕ)
+          → IsLifted c (placed_of f) 1 true out back bounds fewer tally → AreSoundFields c items back bounds tally grants
+      back-fields back bounds tally put =
+          let same = put-back sid items i f stands is are.sound.ascending in
+          fields-put sid items i f stands is c rows out back most bound bounds counts fewer tally grants are lifted.long
+          lifted.bounded lifted.marked lift-counts items (placed_of f) grants put.long put.bounded same
+          (rw (← same) are.sound) are.times put.marked
+          (counts-with c (placed_of f) (without sid table) fewer lift-counts tally put.counted)
+          (are.summed ∙ ap placed_grants same)
 
-    module _ (g : PlacedFlow) (own' : g.sid ≡ sid) (awake : g.rests ≡ false) (times : KeepsTimes c g)
-        (periodic : is_periodic g.spec ≡ true) (none : first_fault c g.spec ≡ None)
-        (room : placed_grants (without sid table) + grants_of g.spec ≤ c.periodic) (next : ℕ)
-        (lawful : IsPlacement c (without sid table) g.spec next g.placement) where
-      as-new : placed_of g ≡ placed_at g.sid g.spec g.placement
-      as-new = ap (λ r. record { sid = g.sid; spec = g.spec; placement = g.placement; rests = r }) awake
+      module _ (g : PlacedFlow) (own' : g.sid ≡ sid) (awake : g.rests ≡ false) (times : KeepsTimes c g)
+          (periodic : is_periodic g.spec ≡ true) (none : first_fault c g.spec ≡ None)
+          (room : placed_grants (without sid table) + grants_of g.spec ≤ c.periodic) (next : ℕ)
+          (lawful : IsPlacement c (without sid table) g.spec next g.placement) where
+        as-new : placed_of g ≡ placed_at g.sid g.spec g.placement
+        as-new = ap (λ r. record { sid = g.sid; spec = g.spec; placement = g.placement; rests = r }) awake
 
-      sid-low : 0 < g.sid
-      sid-low = rw (own', ← own sid items i f stands is) lift-sound.sound.sid_positive
+        sid-low : 0 < g.sid
+        sid-low = rw (own', ← own sid items i f stands is) lift-sound.sound.sid_positive
 
-      sid-high : g.sid ≤ 8191
-      sid-high = rw (own', ← own sid items i f stands is) lift-sound.sound.sid_most
+        sid-high : g.sid ≤ 8191
+        sid-high = rw (own', ← own sid items i f stands is) lift-sound.sound.sid_most
 
-      -- a flow that is lawfully placed beside the others is sound
-      pub put-sound : IsSoundFlow c g
-      put-sound = record {
-        sound = rw as-new (new-sound c (without sid table) g.sid g.spec next g.placement sid-low sid-high periodic none
-            lawful);
-        times = times;
-      }
+        -- a flow that is lawfully placed beside the others is sound
+        pub put-sound : IsSoundFlow c g
+        put-sound = record {
+          sound = rw as-new (new-sound c (without sid table) g.sid g.spec next g.placement sid-low sid-high periodic none
+              lawful);
+          times = times;
+        }
 
-      -- its starts may be put in
-      pub put-may : MayCount c (placed_of g) true fewer
-      put-may = may-count c (placed_of g) (without sid table) fewer lift-counts lawful.few
+        -- its starts may be put in
+        pub put-may : MayCount c (placed_of g) true fewer
+        put-may = may-count c (placed_of g) (without sid table) fewer lift-counts lawful.few
 
-      -- in the place of the one before it the fields are sound
-      pub put-fields : (put : List Bits) (bounds tally : List ℕ)
-          → IsLifted c (placed_of g) 1 true out put bounds fewer tally
-          → AreSoundFields c (set items i g) put bounds tally (grants - f.grants + g.grants)
-      put-fields put bounds tally is-put =
-          let up = are.sound.ascending in
-          let sum = grants-found c sid items i f stands is are.sound are.times in
-          let with = grants-with (placed_of g) (without sid table) in
-          let absent : IsNotPlaced g.sid (without sid table) = rw own' (gone sid table) in
-          fields-put sid items i f stands is c rows out put most bound bounds counts fewer tally grants are lifted.long
-          lifted.bounded lifted.marked lift-counts (set items i g) (placed_of g) (grants - f.grants + g.grants)
-          is-put.long is-put.bounded (put-anew sid items i f stands is g own' up)
-          (rw as-new (sound-with c (without sid table) g.sid g.spec next g.placement times.lawful sid-low sid-high periodic
-          none room absent lawful (rw others-placed at lift-others.sound)))
-          (all-set (KeepsTimes c) items i g are.times times) is-put.marked
-          (counts-with c (placed_of g) (without sid table) fewer lift-counts tally is-put.counted)
-          (omega (arith, sum, with, are.summed, times.grants))
+        -- in the place of the one before it the fields are sound
+        pub put-fields : (put : List Bits) (bounds tally : List ℕ)
+            → IsLifted c (placed_of g) 1 true out put bounds fewer tally
+            → AreSoundFields c (set items i g) put bounds tally (grants - f.grants + g.grants)
+        put-fields put bounds tally is-put =
+            let up = are.sound.ascending in
+            let sum = grants-found c sid items i f stands is are.sound are.times in
+            let with = grants-with (placed_of g) (without sid table) in
+            let absent : IsNotPlaced g.sid (without sid table) = rw own' (gone sid table) in
+            fields-put sid items i f stands is c rows out put most bound bounds counts fewer tally grants are lifted.long
+            lifted.bounded lifted.marked lift-counts (set items i g) (placed_of g) (grants - f.grants + g.grants)
+            is-put.long is-put.bounded (put-anew sid items i f stands is g own' up)
+            (rw as-new (sound-with c (without sid table) g.sid g.spec next g.placement times.lawful sid-low sid-high periodic
+            none room absent lawful (rw others-placed at lift-others.sound)))
+            (all-set (KeepsTimes c) items i g are.times times) is-put.marked
+            (counts-with c (placed_of g) (without sid table) fewer lift-counts tally is-put.counted)
+            (omega (arith, sum, with, are.summed, times.grants))

@@ -210,20 +210,35 @@ impl Table {
         };
         let config = &self.config;
         let flow = &self.flows[place];
-        lift(&mut self.rows, &mut self.widest, &mut self.counts, config, flow, false);
-        let chosen = choose(&self.rows, &self.counts, &mut self.widest, config, spec, next);
-        lift(&mut self.rows, &mut self.widest, &mut self.counts, config, flow, true);
+        lift(
+            &mut self.rows,
+            &mut self.widest,
+            &mut self.counts,
+            config,
+            flow,
+            false,
+        );
+        let chosen = choose(
+            &self.rows,
+            &self.counts,
+            &mut self.widest,
+            config,
+            spec,
+            next,
+        );
+        lift(
+            &mut self.rows,
+            &mut self.widest,
+            &mut self.counts,
+            config,
+            flow,
+            true,
+        );
         chosen
     }
 
     // Whether the placement is lawful for these parameters from `next` on, beside the flows but that of this SID.
-    fn takes_without(
-        &mut self,
-        sid: u16,
-        spec: &FlowSpec,
-        next: u64,
-        placement: &Placement,
-    ) -> bool
+    fn takes_without(&mut self, sid: u16, spec: &FlowSpec, next: u64, placement: &Placement) -> bool
         requires placed { IsPlaced sid self.old.placed }
         requires periodic { is_periodic spec.now ≡ true }
         requires no_fault { first_fault self.old.config spec.now ≡ None }
@@ -238,9 +253,23 @@ impl Table {
         };
         let config = &self.config;
         let flow = &self.flows[place];
-        lift(&mut self.rows, &mut self.widest, &mut self.counts, config, flow, false);
+        lift(
+            &mut self.rows,
+            &mut self.widest,
+            &mut self.counts,
+            config,
+            flow,
+            false,
+        );
         let lawful = is_lawful(&self.rows, &self.counts, config, spec, next, placement);
-        lift(&mut self.rows, &mut self.widest, &mut self.counts, config, flow, true);
+        lift(
+            &mut self.rows,
+            &mut self.widest,
+            &mut self.counts,
+            config,
+            flow,
+            true,
+        );
         lawful
     }
 
@@ -281,9 +310,23 @@ impl Table {
         };
         let config = &self.config;
         let old = &self.flows[place];
-        lift(&mut self.rows, &mut self.widest, &mut self.counts, config, old, false);
+        lift(
+            &mut self.rows,
+            &mut self.widest,
+            &mut self.counts,
+            config,
+            old,
+            false,
+        );
         self.grants -= old.grants;
-        lift(&mut self.rows, &mut self.widest, &mut self.counts, config, &flow, true);
+        lift(
+            &mut self.rows,
+            &mut self.widest,
+            &mut self.counts,
+            config,
+            &flow,
+            true,
+        );
         self.grants += flow.grants;
         self.flows[place] = flow;
     }

@@ -22,12 +22,14 @@ use Rattle.periodic.proofs.Summed.{grants-without}
 use Rattle.sched_history.specs.declared.scheduler.state.State.{State}
 use Rattle.sched_calls.specs.declared.call.Call.TheVariants as calls
 use Rattle.sched_calls.specs.declared.reply.Reply.{Reply}
+use Rattle.sched_calls.specs.declared.reply.Reply.TheVariants as replies
+use Rattle.sched_calls.specs.declared.reply.Refusal.TheVariants.{NoPlace}
 use Rattle.sched_calls.specs.declared.reply.Entry.{Entry}
 use Rattle.sched_history.specs.Life.{Admission, Life, life_of, given_in, rests_in, flow_in_life, placed_in_life, flows_of}
 use Rattle.sched_history.specs.Life.{table_of}
 use Rattle.sched_history.specs.Refusal.{bad_sid, has_live, periodic_grants, other_grants}
 use Rattle.sched_history.specs.Time.{next_after}
-use Rattle.sched_history.specs.History.{AnswersChange, Answers, IsLegal}
+use Rattle.sched_history.specs.History.{PlacesAnew, AnswersChange, Answers, IsLegal}
 use Rattle.sched_history.specs.Machine.{TellsPlace, TakesMemory}
 use Rattle.sched_history.specs.State.{IsStateAfter, IsOpenTo}
 use Rattle.sched_history.proofs.lives.Finding.{good_sid, flow_of-flows_of, flows_of-channel, table_of-ascends}
@@ -35,6 +37,7 @@ use Rattle.sched_history.proofs.lives.FlowsAfter.{placed_with}
 use Rattle.sched_history.proofs.placements.Counts.{life_of-pairs, grants-placed_by}
 use Rattle.sched_history.proofs.placements.Given.{known-life}
 use Rattle.sched_history.proofs.state.Present.{flow_of-after, find-after, placement-some, IsLive-after}
+use Rattle.sched_history.proofs.state.Present.{without_placed-none}
 use Rattle.sched_history.proofs.steps.Passed.{IsKnown, ChangesFlow, passed-change}
 
 -- flows of one kind are both periodic, or neither
@@ -50,6 +53,12 @@ alike-takes (Unsolicited size interval jitter grants) (Unsolicited size' interva
 alike-takes (Polled interval jitter rate burst) (Polled interval' jitter' rate' burst') kind = refl
 alike-takes (BestEffort priority rate burst) (BestEffort priority' rate' burst') kind = refl
 alike-takes spec other kind = absurd cc
+
+-- a flow that keeps its place is periodic
+pub place-periodic : (spec other : FlowSpec) → has_place_of spec other ≡ true → is_periodic other ≡ true
+place-periodic (Unsolicited size interval jitter grants) (Unsolicited size' interval' jitter' grants') same = refl
+place-periodic (Polled interval jitter rate burst) (Polled interval' jitter' rate' burst') same = refl
+place-periodic spec other same = absurd cc
 
 above-left : (sid : ℕ) (flows : List LiveFlow) → AllByRecursion (λ g. sid < g.sid) flows → without_flow sid flows ≡ flows
 above-left sid [] all = refl
@@ -155,6 +164,62 @@ some-placement : (o : Option Placement) → is_some o ≡ true → (p : Placemen
 some-placement None is = absurd cc
 some-placement (Some p) is = (p, refl)
 
+-- or does not
+no-placement : (o : Option Placement) → is_some o ≡ false → o ≡ None
+no-placement None is = refl
+no-placement (Some p) is = absurd cc
+
+-- a placement is answered once
+same_changed : (p q : Placement) → replies.Changed (Some p) ≡ replies.Changed (Some q) → p ≡ q
+same_changed p q same = cc
+
+module _ (c : Config) (h : List Entry) (sid : ℕ) (given : Admission) (spec : FlowSpec) (p : Placement) where
+  -- the placement of a flow that keeps its place
+  pub kept-answer : has_place_of given.spec spec ≡ true → is_periodic spec ≡ true
+      → AnswersChange c h sid given spec (replies.Changed (Some p))
+      → IsSomeAnd given.placement (λ stands. IsToldFrom c spec (next_after c h) stands p)
+  kept-answer same periodic (inl kept) =
+      subst (λ q. IsSomeAnd given.placement (λ stands. IsToldFrom c spec (next_after c h) stands q))
+      (sym (same_changed p kept.1.0 kept.1.1.1)) kept.1.1.0
+  kept-answer same periodic (inr (inl anew)) = absurd (let apart : true ≡ false = sym same ∙ anew.0 in cc)
+  kept-answer same periodic (inr (inr none)) = absurd (let apart : true ≡ false = sym periodic ∙ none.0 in cc)
+
+  anew-answer : PlacesAnew c h sid spec (replies.Changed (Some p))
+      → IsPlacement c (without sid (table_of h)) spec (next_after c h) p
+  anew-answer (inl placed) =
+      subst (λ q. IsPlacement c (without sid (table_of h)) spec (next_after c h) q)
+      (sym (same_changed p placed.0 placed.1.1)) placed.1.0
+  anew-answer (inr refused) = absurd (let apart = refused.1 in cc)
+
+  -- the placement of one that is placed anew
+  pub placed-answer : has_place_of given.spec spec ≡ false → is_periodic spec ≡ true
+      → AnswersChange c h sid given spec (replies.Changed (Some p))
+      → IsPlacement c (without sid (table_of h)) spec (next_after c h) p
+  placed-answer other periodic (inl kept) = absurd (let apart : true ≡ false = sym kept.0 ∙ other in cc)
+  placed-answer other periodic (inr (inl anew)) = anew-answer anew.1.1
+  placed-answer other periodic (inr (inr none)) = absurd (let apart : true ≡ false = sym periodic ∙ none.0 in cc)
+
+module _ (c : Config) (h : List Entry) (sid : ℕ) (given : Admission) (spec : FlowSpec) where
+  anew-refused : PlacesAnew c h sid spec (replies.Refused NoPlace)
+      → NoPlacement c (without sid (table_of h)) spec (next_after c h)
+  anew-refused (inl placed) = absurd (let apart = placed.1.1 in cc)
+  anew-refused (inr refused) = refused.0
+
+  -- where there is no place it is placed anew
+  pub refused-answer : AnswersChange c h sid given spec (replies.Refused NoPlace)
+      → (has_place_of given.spec spec ≡ false) × NoPlacement c (without sid (table_of h)) spec (next_after c h)
+  refused-answer (inl kept) = absurd (let apart = kept.1.1.1 in cc)
+  refused-answer (inr (inl anew)) = (anew.0, anew-refused anew.1.1)
+  refused-answer (inr (inr none)) = absurd (let apart = none.1 in cc)
+
+  -- A periodic flow is answered with a placement, or there is no place
+  pub periodic-answer : (reply : Reply) → is_periodic spec ≡ true → AnswersChange c h sid given spec reply
+      → ((p : Placement) × (reply ≡ replies.Changed (Some p))) ⊎ (reply ≡ replies.Refused NoPlace)
+  periodic-answer reply periodic (inl kept) = inl (kept.1.0, kept.1.1.1)
+  periodic-answer reply periodic (inr (inl (other, yes, inl placed))) = inl (placed.0, placed.1.1)
+  periodic-answer reply periodic (inr (inl (other, yes, inr refused))) = inr refused.1
+  periodic-answer reply periodic (inr (inr none)) = absurd (let apart : true ≡ false = sym periodic ∙ none.0 in cc)
+
 -- What is known where a change is open
 module _ (s : State) (h : List Entry) (sid : ℕ) (spec : FlowSpec) (opens : IsOpenTo s (calls.Change sid spec) h) where
   abbrev pub may : ChangesFlow s.config h sid spec
@@ -224,6 +289,14 @@ module _ (s : State) (h : List Entry) (sid : ℕ) (spec : FlowSpec) (opens : IsO
   pub takes-given : TellsPlace s.config h sid had spec → TakesMemory s.config h (calls.Change sid spec)
   takes-given tells = subst (λ o. MatchOption o ⊥ (λ l. TellsPlace s.config h sid (given_in sid l) spec)) (sym life.1) tells
 
+  -- a flow without a place stands nowhere
+  pub change-nowhere : is_periodic spec ≡ false → without sid s.table.placed ≡ s.table.placed
+  change-nowhere aperiodic =
+      let none = no-placement had.placement
+      (life_of-pairs s.config h sid life.0 opens.legal life.1 ∙ had-periodic ∙ aperiodic) in
+      without_placed-none sid s.table.placed
+      (change-placed ∙ ap (option_map (placed_with sid had.spec (rests_in sid life.0.since))) none)
+
   module _ (periodic : is_periodic spec ≡ true) where
     -- its placement stands
     pub had-placement : (p : Placement) × (had.placement ≡ Some p)
@@ -286,3 +359,7 @@ module _ (s : State) (h : List Entry) (sid : ℕ) (spec : FlowSpec) (opens : IsO
         (subst (λ ps. IsPlacement s.config (without sid ps) spec s.next p) (sym opens.is_after.placed)
         (subst (λ n. IsPlacement s.config (without sid (table_of h)) spec n p) (sym opens.is_after.next) lawful))
 
+    -- no place beside them is no place after the history
+    pub none-beside : NoPlacement s.table.config (without sid s.table.placed) spec s.next
+        → NoPlacement s.config (without sid (table_of h)) spec (next_after s.config h)
+    none-beside none = λ p lawful. none p (beside-table p lawful)

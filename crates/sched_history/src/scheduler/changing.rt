@@ -1,6 +1,6 @@
 //! Flows that have other parameters: how a change is answered, and how its answer is followed.
 
-ghost use Rattle.std.specs.Prelude.{◌≡◌, true, false, Some, None, IfOk, IfSome, OnErr};
+ghost use Rattle.std.specs.Prelude.{◌≡◌, ◌≢◌, true, false, Some, None, IfOk, IfSome, OnErr};
 ghost use Rattle.sched_calls.specs.FlowSpec.{is_periodic, has_place_of};
 ghost use Rattle.flow_book.specs.Flows.{flow_of};
 ghost use Rattle.sched_history.specs.State.{IsOpen, AnswersOpen, FollowsOpen, DiffersOpen, TakesMemoryOpen};
@@ -166,12 +166,27 @@ impl State {
         ensures memory { OnErr result (TakesMemoryOpen self.old (Call.Change sid spec)) }
     {
         let Some(placement) = changed_placement_in(reply) else {
-            return Ok(is_refused(reply, Refusal::NoPlace) && self.lacks_place(sid, spec));
+            return Ok(self.follow_refused(sid, spec, reply));
         };
         if self.keeps_place(sid, spec) {
             return Ok(self.follow_kept(sid, spec, placement));
         }
         self.adopt_change(sid, spec, placement)
+    }
+
+    // Whether the reply says that there is no place, and there is none.
+    fn follow_refused(&mut self, sid: u16, spec: FlowSpec, reply: &Reply) -> bool
+        requires open { IsOpen self.old (Call.Change sid spec) }
+        requires periodic { is_periodic spec ≡ true }
+        requires unplaced { (p : Placement) → reply.now ≢ Reply.Changed (Some p) }
+        ensures follows { result ≡ true → FollowsOpen self.old self.new (Call.Change sid spec) reply.now }
+        ensures differs { result ≡ false → DiffersOpen self.old (Call.Change sid spec) reply.now }
+        ensures same { self.new ≡ self.old }
+    {
+        if !is_refused(reply, Refusal::NoPlace) {
+            return false;
+        }
+        self.lacks_place(sid, spec)
     }
 
     // Whether this is the placement that a flow keeps. Where it is, the flow is changed.
@@ -227,6 +242,9 @@ impl State {
             DiffersOpen self.old (Call.Change sid spec) (Reply.Refused Refusal.NoPlace) }
         ensures same { self.new ≡ self.old }
     {
-        !self.keeps_place(sid, spec) && self.table.has_no_place(sid, &spec, self.next)
+        if self.keeps_place(sid, spec) {
+            return false;
+        }
+        self.table.has_no_place(sid, &spec, self.next)
     }
 }

@@ -16,4 +16,6 @@ returns-in_default-three_of-clause-no_place c = (
 )
 
 pub move_to-requires-clause-lawful : goal.move_to-requires-clause-lawful
-move_to-requires-clause-lawful c = ?
+move_to-requires-clause-lawful c =
+    rw (c.chosen_without.ensures.same, c.in-Ok.ensures.kept, c.starts.ensures)
+    (c.args.next, c.in-Some.ensures.chosen.lawful)

@@ -124,5 +124,8 @@ returns c =
     let a = c.self.inside in
     let stands = at-place c.args.flow.sid a.flows.items _ _ c.in-Some.place c.deref.ensures.value
     c.place_of.ensures c.in-Some.is in
-    rw (← c.self.view_is, put-anew c.args.flow.sid a.flows.items c.in-Some.place c.index-old.result.now stands
-    c.index-old.ensures c.args.flow refl c.self.invariant.sound.ascending) refl
+    rw (
+      ← c.self.view_is,
+      put-anew c.args.flow.sid a.flows.items c.in-Some.place c.index-old.result.now stands
+          c.index-old.ensures c.args.flow refl c.self.invariant.sound.ascending,
+    ) refl

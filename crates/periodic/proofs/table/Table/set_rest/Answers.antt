@@ -19,8 +19,11 @@ invariant_of-self c =
 pub returns-in-Some : goal.returns-in-Some
 returns-in-Some c =
     let inside = c.self.inside in
-    rw (← c.self.view_is, placed-rests inside.config c.args.sid c.args.rests inside.flows.items c.in-Some.place
-    c.index_mut.result.now _ (stands c) c.index_mut.ensures.value refl c.self.invariant.sound.ascending) refl
+    rw (
+      ← c.self.view_is,
+      placed-rests inside.config c.args.sid c.args.rests inside.flows.items c.in-Some.place
+          c.index_mut.result.now _ (stands c) c.index_mut.ensures.value refl c.self.invariant.sound.ascending,
+    ) refl
 
 pub returns-in_default : goal.returns-in_default
 returns-in_default c =

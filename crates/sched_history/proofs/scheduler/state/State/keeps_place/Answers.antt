@@ -1,0 +1,18 @@
+-- What is found tells whether the flow keeps its place.
+use Rattle.std.proofs.Common.{◌≡◌, Option, None, Some, sym, ap, ◌∙◌}
+use Rattle.std.specs.Option.{option_map, IfSome}
+use Rattle.sched_calls.specs.declared.spec.FlowSpec.{FlowSpec}
+use Rattle.sched_calls.specs.FlowSpec.{has_place_of}
+use Rattle.flow_book.specs.Flows.{LiveFlow, flow_of}
+use Rattle.sched_history.proofs.scheduler.state.State.keeps_place.Goals as goal
+
+of-found : (o : Option LiveFlow) (old spec : FlowSpec) → option_map (λ f. f.spec) o ≡ Some old
+    → IfSome o (λ f. has_place_of f.spec spec ≡ has_place_of old spec)
+of-found None old spec is = tt
+of-found (Some f) old spec is = cc
+
+pub returns-in-Some : goal.returns-in-Some
+returns-in-Some c = ?
+
+pub returns-in-None : goal.returns-in-None
+returns-in-None c = ?
