@@ -1,6 +1,6 @@
 -- What the fields of a scheduler say of a flow that is to have other parameters, and the fields with one change more.
 use Rattle.std.proofs.Common.{◌≡◌, ◌≢◌, ℕ, ◌+◌, ◌%◌, ◌^◌, ◌<◌, ◌≤◌, Bool, true, false, not, ◌==◌, if◌then◌else◌, List, [], ◌∷◌, ◌++◌}
-use Rattle.std.proofs.Common.{filter, find, Option, None, Some, refl, sym, ap, ◌∙◌, subst, inl, inr, arith}
+use Rattle.std.proofs.Common.{◌⊎◌, filter, find, Option, None, Some, refl, sym, ap, ◌∙◌, subst, inl, inr, arith}
 use Rattle.std.specs.Prelude.{is_some, IsSome, sum_by}
 use Rattle.std.specs.Option.{option_map, option_map_or, option_and_then, IfSome, IsSomeAnd, MatchOption}
 use Rattle.std.proofs.lemmas.Bool.{cases_eq}
@@ -180,7 +180,7 @@ module _ (c : Config) (h : List Entry) (sid : ℕ) (given : Admission) (spec : F
       → IsSomeAnd given.placement (λ stands. IsToldFrom c spec (next_after c h) stands p)
   kept-answer same periodic (inl kept) =
       subst (λ q. IsSomeAnd given.placement (λ stands. IsToldFrom c spec (next_after c h) stands q))
-      (sym (same_changed p kept.1.0 kept.1.1.1)) kept.1.1.0
+      (sym (same_changed p kept.1.0 kept.1.2)) kept.1.1
   kept-answer same periodic (inr (inl anew)) = absurd (let apart : true ≡ false = sym same ∙ anew.0 in cc)
   kept-answer same periodic (inr (inr none)) = absurd (let apart : true ≡ false = sym periodic ∙ none.0 in cc)
 
@@ -188,7 +188,7 @@ module _ (c : Config) (h : List Entry) (sid : ℕ) (given : Admission) (spec : F
       → IsPlacement c (without sid (table_of h)) spec (next_after c h) p
   anew-answer (inl placed) =
       subst (λ q. IsPlacement c (without sid (table_of h)) spec (next_after c h) q)
-      (sym (same_changed p placed.0 placed.1.1)) placed.1.0
+      (sym (same_changed p placed.0 placed.2)) placed.1
   anew-answer (inr refused) = absurd (let apart = refused.1 in cc)
 
   -- the placement of one that is placed anew
@@ -196,28 +196,28 @@ module _ (c : Config) (h : List Entry) (sid : ℕ) (given : Admission) (spec : F
       → AnswersChange c h sid given spec (replies.Changed (Some p))
       → IsPlacement c (without sid (table_of h)) spec (next_after c h) p
   placed-answer other periodic (inl kept) = absurd (let apart : true ≡ false = sym kept.0 ∙ other in cc)
-  placed-answer other periodic (inr (inl anew)) = anew-answer anew.1.1
+  placed-answer other periodic (inr (inl anew)) = anew-answer anew.2
   placed-answer other periodic (inr (inr none)) = absurd (let apart : true ≡ false = sym periodic ∙ none.0 in cc)
 
 module _ (c : Config) (h : List Entry) (sid : ℕ) (given : Admission) (spec : FlowSpec) where
   anew-refused : PlacesAnew c h sid spec (replies.Refused NoPlace)
       → NoPlacement c (without sid (table_of h)) spec (next_after c h)
-  anew-refused (inl placed) = absurd (let apart = placed.1.1 in cc)
+  anew-refused (inl placed) = absurd (let apart = placed.2 in cc)
   anew-refused (inr refused) = refused.0
 
   -- where there is no place it is placed anew
   pub refused-answer : AnswersChange c h sid given spec (replies.Refused NoPlace)
       → (has_place_of given.spec spec ≡ false) × NoPlacement c (without sid (table_of h)) spec (next_after c h)
-  refused-answer (inl kept) = absurd (let apart = kept.1.1.1 in cc)
-  refused-answer (inr (inl anew)) = (anew.0, anew-refused anew.1.1)
+  refused-answer (inl kept) = absurd (let apart = kept.1.2 in cc)
+  refused-answer (inr (inl anew)) = (anew.0, anew-refused anew.2)
   refused-answer (inr (inr none)) = absurd (let apart = none.1 in cc)
 
   -- A periodic flow is answered with a placement, or there is no place
   pub periodic-answer : (reply : Reply) → is_periodic spec ≡ true → AnswersChange c h sid given spec reply
       → ((p : Placement) × (reply ≡ replies.Changed (Some p))) ⊎ (reply ≡ replies.Refused NoPlace)
-  periodic-answer reply periodic (inl kept) = inl (kept.1.0, kept.1.1.1)
-  periodic-answer reply periodic (inr (inl (other, yes, inl placed))) = inl (placed.0, placed.1.1)
-  periodic-answer reply periodic (inr (inl (other, yes, inr refused))) = inr refused.1
+  periodic-answer reply periodic (inl kept) = inl (kept.1.0, kept.1.2)
+  periodic-answer reply periodic (inr (inl (other, is, inl placed))) = inl (placed.0, placed.2)
+  periodic-answer reply periodic (inr (inl (other, is, inr refused))) = inr refused.1
   periodic-answer reply periodic (inr (inr none)) = absurd (let apart : true ≡ false = sym periodic ∙ none.0 in cc)
 
 -- What is known where a change is open

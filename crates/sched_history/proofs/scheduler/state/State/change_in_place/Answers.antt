@@ -66,14 +66,14 @@ change-requires-clause-live c = change-live c.args.self.now c.requires.open.0 c.
 pub change-requires-clause-kind : goal.change-requires-clause-kind
 change-requires-clause-kind c = change-kind c.args.self.now c.requires.open.0 c.args.sid c.args.spec c.requires.open.1
 
-pub returns-in_err-told-clause-memory : goal.returns-in_err-told-clause-memory
-returns-in_err-told-clause-memory c =
+pub returns-in_err-placement-clause-memory : goal.returns-in_err-placement-clause-memory
+returns-in_err-placement-clause-memory c =
     on-err c.from_residual.result _ (λ h opens. takes-given c.args.self.now h c.args.sid c.args.spec opens
     (inl (had-place c.args.self.now h c.args.sid c.args.spec opens true c.requires.alike)))
 
-pub returns-in_err-copy-clause-memory : goal.returns-in_err-copy-clause-memory
-returns-in_err-copy-clause-memory c =
-    on-err c.from_residual.result _ (λ h opens. takes-given c.args.self.now h c.args.sid c.args.spec opens
+pub returns-in_err-kept-clause-memory : goal.returns-in_err-kept-clause-memory
+returns-in_err-kept-clause-memory c =
+    on-err c.from_residual-in_err-kept.result _ (λ h opens. takes-given c.args.self.now h c.args.sid c.args.spec opens
     (inl (had-place c.args.self.now h c.args.sid c.args.spec opens true c.requires.alike)))
 
 pub returns-clause-answered : goal.returns-clause-answered
@@ -90,7 +90,7 @@ returns-clause-answered c = λ h opens.
       twice = ap (λ k. replies.Changed (Some k)) c.in_ok-kept.ensures;
       config = refl;
       answers = answers-given s h sid spec opens (replies.Changed (Some p))
-          (inl (same, p, kept-told s h sid spec opens periodic p c.in_ok-placement.ensures, refl));
+          (inl (same, (p, kept-told s h sid spec opens periodic p c.in_ok-placement.ensures, refl)));
       encodable = tt;
       is_after = λ stamp. IsStateAfter-changed s h opens.is_after stamp sid spec known.0 known.1 p c.change.new.self
           c.keep.new.self good.0 good.1 c.change.ensures (ap (λ t. t.config) c.keep.ensures)

@@ -83,4 +83,4 @@ returns-in-Err-Memory-clause-memory c = λ h opens.
     let spec = c.args.spec in
     let place = (rw c.in-Err-Memory.field-0-is at c.in-Err-Memory.ensures).memory refl in
     takes-given s h sid spec opens
-    (inr (c.requires.periodic, place.0, beside s h sid spec opens c.requires.periodic place.0 place.1))
+    (inr (c.requires.periodic, (place.0, beside s h sid spec opens c.requires.periodic place.0 place.1)))

@@ -1,5 +1,5 @@
 -- A flow without a place has other parameters, and no placement.
-use Rattle.std.proofs.Common.{refl, inr}
+use Rattle.std.proofs.Common.{None, refl, inr}
 use Rattle.sched_calls.specs.declared.call.Call.TheVariants as calls
 use Rattle.sched_calls.specs.declared.reply.Reply.TheVariants as replies
 use Rattle.sched_history.proofs.state.ChangeMoves.{IsStateAfter-given}

@@ -7,7 +7,7 @@ use Rattle.sched_history.proofs.state.ChangeMoves.{IsStateAfter-changed}
 use Rattle.sched_history.proofs.state.Changing.{may, life, had, had-place, place-periodic, change-live, change-kind}
 use Rattle.sched_history.proofs.state.Changing.{change-fault, change-aligned, change-next, change-is_placed}
 use Rattle.sched_history.proofs.state.Changing.{change-alike, kept-told, told-kept, answers-given, given-answers}
-use Rattle.sched_history.proofs.state.Changing.{kept-answer}
+use Rattle.sched_history.proofs.state.Changing.{kept-answer, change-at}
 use Rattle.sched_history.proofs.scheduler.state.State.follow_kept.Goals as goal
 
 pub is_told-requires-clause-placed : goal.is_told-requires-clause-placed
@@ -55,7 +55,7 @@ keep-requires-clause-no_fault c =
     change-fault c.args.self.now c.requires.open.0 c.args.sid c.args.spec c.requires.open.1
 
 pub keep-requires-clause-told : goal.keep-requires-clause-told
-keep-requires-clause-told c = (c.args.self.now.next, c.is_told.ensures.told refl)
+keep-requires-clause-told c = (c.args.self.now.next, c.if-not-is_told.ensures.told refl)
 
 pub change-requires-clause-live : goal.change-requires-clause-live
 change-requires-clause-live c = change-live c.args.self.now c.requires.open.0 c.args.sid c.args.spec c.requires.open.1
@@ -72,9 +72,12 @@ returns-then-not-is_told-clause-differs c = λ is h opens answers.
     let periodic = place-periodic (had s h sid spec opens).spec spec same in
     let known = life s h sid spec opens in
     let good = good_sid sid (may s h sid spec opens).known.good in
-    c.is_told.ensures.other refl (told-kept s h sid spec opens periodic c.args.placement.now
+    let told = told-kept s h sid spec opens periodic c.args.placement.now
     (kept-answer s.config h sid (had s h sid spec opens) spec c.args.placement.now same periodic
-    (given-answers s h sid spec opens (replies.Changed (Some c.args.placement.now)) answers)))
+    (given-answers s h sid spec opens (replies.Changed (Some c.args.placement.now)) answers)) in
+    let stands = change-at s h sid spec opens periodic in
+    let apart = rw stands at (c.if-not-is_told.ensures.other refl) in
+    apart (rw stands at told)
 
 pub returns-clause-follows : goal.returns-clause-follows
 returns-clause-follows c = λ is h opens.
@@ -89,7 +92,7 @@ returns-clause-follows c = λ is h opens.
     record {
       config = refl;
       answers = answers-given s h sid spec opens (replies.Changed (Some p))
-          (inl (same, p, kept-told s h sid spec opens periodic p (c.is_told.ensures.told refl), refl));
+          (inl (same, (p, kept-told s h sid spec opens periodic p (c.if-not-is_told.ensures.told refl), refl)));
       encodable = tt;
       is_after = λ stamp. IsStateAfter-changed s h opens.is_after stamp sid spec known.0 known.1 p c.change.new.self
           c.keep.new.self good.0 good.1 c.change.ensures (ap (λ t. t.config) c.keep.ensures)

@@ -9,13 +9,13 @@ returns-then-not-is_refused-clause-differs c = λ is h opens answers.
     elim (periodic-answer s.config h c.args.sid (had s h c.args.sid c.args.spec opens) c.args.spec c.args.reply.now
     c.requires.periodic (given-answers s h c.args.sid c.args.spec opens c.args.reply.now answers)) [
       | inl placed ↦ c.requires.unplaced placed.0 placed.1
-      | inr refused ↦ c.is_refused.ensures.other refl refused
+      | inr refused ↦ c.if-not-is_refused.ensures.other refl refused
     ]
 
 pub returns-clause-follows : goal.returns-clause-follows
 returns-clause-follows c = λ is h opens.
-    rw (c.is_refused.ensures.refused refl) (c.lacks_place.ensures.follows is h opens)
+    rw (c.if-not-is_refused.ensures.refused refl) (c.lacks_place.ensures.follows is h opens)
 
 pub returns-clause-differs : goal.returns-clause-differs
 returns-clause-differs c = λ is h opens answers.
-    c.lacks_place.ensures.differs is h opens (rw (c.is_refused.ensures.refused refl) at answers)
+    c.lacks_place.ensures.differs is h opens (rw (c.if-not-is_refused.ensures.refused refl) at answers)

@@ -31,7 +31,7 @@ returns-then-keeps_place-clause-differs c = λ is h opens answers.
     let s = c.args.self.now in
     let sid = c.args.sid in
     let spec = c.args.spec in
-    let keeps = had-place s h sid spec opens true c.keeps_place.ensures in
+    let keeps = had-place s h sid spec opens c.keeps_place.result c.keeps_place.ensures ∙ c.if-keeps_place.true in
     let refused = refused-answer s.config h sid (had s h sid spec opens) spec
     (given-answers s h sid spec opens (replies.Refused NoPlace) answers) in
     let apart : true ≡ false = sym keeps ∙ refused.0 in
@@ -42,7 +42,7 @@ returns-clause-follows c = λ is h opens.
     let s = c.args.self.now in
     let sid = c.args.sid in
     let spec = c.args.spec in
-    let other = had-place s h sid spec opens false c.keeps_place.ensures in
+    let other = had-place s h sid spec opens c.keeps_place.result c.keeps_place.ensures ∙ c.if-keeps_place.false in
     let none = none-beside s h sid spec opens c.requires.periodic (c.has_no_place.ensures.none is) in
     rw (c.has_no_place.ensures.same) (record {
       config = refl;
