@@ -7,7 +7,7 @@ use map_codec::{Element, WireMap};
 use sched_calls::{FrameMap, Placement, Refusal, Reply};
 
 // A reply without lists.
-#[derive(Clone, Copy, PartialEq, Eq)]
+#[derive(Clone, Copy)]
 pub(crate) enum FlatReply {
     Admitted,
     Changed,
@@ -63,7 +63,19 @@ fn is_same_reply(reply: FlatReply, other: FlatReply) -> bool
     ensures same { result ≡ true → reply ≡ other }
     ensures apart { result ≡ false → reply ≢ other }
 {
-    reply == other
+    match reply {
+        FlatReply::Admitted => matches!(other, FlatReply::Admitted),
+        FlatReply::Changed => matches!(other, FlatReply::Changed),
+        FlatReply::Removed => matches!(other, FlatReply::Removed),
+        FlatReply::Taken => matches!(other, FlatReply::Taken),
+        FlatReply::Noted => matches!(other, FlatReply::Noted),
+        FlatReply::Reserved => matches!(other, FlatReply::Reserved),
+        FlatReply::Skipped(next) => matches!(other, FlatReply::Skipped(it) if it == next),
+        FlatReply::Flow(asked, granted, outstanding) => {
+            matches!(other, FlatReply::Flow(a, g, o) if a == asked && g == granted && o == outstanding)
+        }
+        FlatReply::Refused(refusal) => matches!(other, FlatReply::Refused(it) if it == refusal),
+    }
 }
 
 // Whether two replies have no lists and are the same, or both have lists.
