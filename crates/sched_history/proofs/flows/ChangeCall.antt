@@ -123,30 +123,30 @@ module _ (stamp : Stamp) (h : List Entry) (sid : ℕ) (spec : FlowSpec) (place :
       ∙ sym (kept_other (λ p. p.sid) sid other (placed_at h other) (placed_at-sid h other) differ)
 
 module _ (stamp : Stamp) (h : List Entry) (sid : ℕ) (spec : FlowSpec) (life : Life) (lives : life_of sid h ≡ Some life)
-    where
-  -- with a placement it stands beside the others
-  pub table_of-change_placed : (p : Placement) → 1 ≤ sid → sid ≤ 8191
-      → table_of (h ++ record { stamp = stamp; call = calls.Change sid spec; reply = replies.Changed (Some p) } ∷ [])
-      ≡ with_placed (new_placed sid spec p) (without_placed sid (table_of h))
-  table_of-change_placed p low high =
-      let left = filter_map-kept (placed_at h) (left_at stamp h sid spec (Some p)) (λ q. not (q.sid == sid)) sids
-      (λ other. refl) in
-      rw sids-range.2
-      (filter_map-put_in (λ q. q.sid) (left_at stamp h sid spec (Some p)) (left_at-sid stamp h sid spec (Some p))
-      (placed_at (h ++ change stamp h sid spec (Some p) ∷ [])) sid (new_placed sid spec p) refl
-      (left_at-own stamp h sid spec (Some p)) (placed_at-changed stamp h sid spec (Some p) life lives)
-      (left_at-others stamp h sid spec (Some p)) 1 sids-range.0 low (omega (arith, sids-range.1)))
-      ∙ put_in-placed (new_placed sid spec p) (filter_map (left_at stamp h sid spec (Some p)) sids)
-      ∙ ap (with_placed (new_placed sid spec p)) left
+  where
+    -- with a placement it stands beside the others
+    pub table_of-change_placed : (p : Placement) → 1 ≤ sid → sid ≤ 8191
+        → table_of (h ++ record { stamp = stamp; call = calls.Change sid spec; reply = replies.Changed (Some p) } ∷ [])
+        ≡ with_placed (new_placed sid spec p) (without_placed sid (table_of h))
+    table_of-change_placed p low high =
+        let left = filter_map-kept (placed_at h) (left_at stamp h sid spec (Some p)) (λ q. not (q.sid == sid)) sids
+        (λ other. refl) in
+        rw sids-range.2
+        (filter_map-put_in (λ q. q.sid) (left_at stamp h sid spec (Some p)) (left_at-sid stamp h sid spec (Some p))
+        (placed_at (h ++ change stamp h sid spec (Some p) ∷ [])) sid (new_placed sid spec p) refl
+        (left_at-own stamp h sid spec (Some p)) (placed_at-changed stamp h sid spec (Some p) life lives)
+        (left_at-others stamp h sid spec (Some p)) 1 sids-range.0 low (omega (arith, sids-range.1)))
+        ∙ put_in-placed (new_placed sid spec p) (filter_map (left_at stamp h sid spec (Some p)) sids)
+        ∙ ap (with_placed (new_placed sid spec p)) left
 
-  -- without one it stands nowhere
-  pub table_of-change_unplaced :
-      table_of (h ++ record { stamp = stamp; call = calls.Change sid spec; reply = replies.Changed None } ∷ [])
-      ≡ without_placed sid (table_of h)
-  table_of-change_unplaced =
-      filter_map-kept (placed_at h) (placed_at (h ++ change stamp h sid spec None ∷ [])) (λ q. not (q.sid == sid)) sids
-      (λ other. elim (cases_eq other sid) [
-        | inl same ↦ rw same (placed_at-changed stamp h sid spec None life lives
-            ∙ sym (left_at-own stamp h sid spec None))
-        | inr differ ↦ left_at-others stamp h sid spec None other differ
-      ])
+    -- without one it stands nowhere
+    pub table_of-change_unplaced :
+        table_of (h ++ record { stamp = stamp; call = calls.Change sid spec; reply = replies.Changed None } ∷ [])
+        ≡ without_placed sid (table_of h)
+    table_of-change_unplaced =
+        filter_map-kept (placed_at h) (placed_at (h ++ change stamp h sid spec None ∷ [])) (λ q. not (q.sid == sid)) sids
+        (λ other. elim (cases_eq other sid) [
+          | inl same ↦ rw same (placed_at-changed stamp h sid spec None life lives
+              ∙ sym (left_at-own stamp h sid spec None))
+          | inr differ ↦ left_at-others stamp h sid spec None other differ
+        ])

@@ -6,7 +6,6 @@ use Rattle.std.proofs.lemmas.Bool.Decides.{nat_tests}
 use Rattle.minislots.specs.declared.stamp.Stamp.{Stamp}
 use Rattle.periodic.specs.Placement.{Placed}
 use Rattle.periodic.specs.Table.{resting, with_rest}
-use Rattle.sched_calls.specs.declared.call.Call.{Call}
 use Rattle.sched_calls.specs.declared.call.Call.TheVariants as calls
 use Rattle.sched_calls.specs.declared.reply.Reply.TheVariants as replies
 use Rattle.sched_calls.specs.declared.reply.Entry.{Entry}
@@ -14,7 +13,7 @@ use Rattle.sched_history.specs.Life.{turn_by, change_by, rest_by, sids, table_of
 use Rattle.sched_history.proofs.lists.Latests.{or_else}
 use Rattle.sched_history.proofs.lists.Numbered.{filter_map-changed}
 use Rattle.sched_history.proofs.lives.Finding.{placed_at, placed_at-sid}
-use Rattle.sched_history.proofs.lives.FlowsAfter.{rested_by, placed_at-rested}
+use Rattle.sched_history.proofs.lives.FlowsAfter.{placed_at-rested}
 
 -- a flow that rests or wakes, or another
 rested_flow : (b rests : Bool) (p : Placed) → resting (or_else (if b then Some rests else None) p.rests) p

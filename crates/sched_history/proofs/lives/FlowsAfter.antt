@@ -199,8 +199,13 @@ pub flow_in_life-more : (c : Config) (sid : ℕ) (e : Entry) (life : Life)
 flow_in_life-more c sid e life =
     let spec = ap (λ (a : Admission). a.spec) (given_in-more sid e life)
     ∙ given-spec (change_by sid e.call e.reply) (given_in sid life) in
-    rw (spec, asked_in-push c sid life.since e, batches_in-push c sid life.since e, grants_since-push sid life.since e,
-    earlier-more sid e life) refl
+    rw (
+      spec,
+      asked_in-push c sid life.since e,
+      batches_in-push c sid life.since e,
+      grants_since-push sid life.since e,
+      earlier-more sid e life,
+    ) refl
 
 grown-map : (c : Config) (sid : ℕ) (e : Entry) (o : Option Life)
     → option_map (flow_in_life c sid) (option_map (with_since e) o)

@@ -1,6 +1,6 @@
 -- The live placements of a legal history: each was lawful when it was made.
 use Rattle.std.proofs.Common.{◌≡◌, ℕ, ◌≤◌, Bool, true, false, if◌then◌else◌, ◌==◌, List, [], ◌∷◌, ◌++◌}
-use Rattle.std.proofs.Common.{Option, None, Some, refl, sym, ap, ◌∙◌, subst, inl, inr, Contains, arith}
+use Rattle.std.proofs.Common.{Option, None, Some, refl, ap, ◌∙◌, subst, inl, inr, Contains, arith}
 use Rattle.std.specs.Option.{option_map, option_and_then, IsSomeAnd}
 use Rattle.std.proofs.lemmas.Bool.Decides.{nat_tests}
 use Rattle.minislots.specs.declared.config.Config.{Config}

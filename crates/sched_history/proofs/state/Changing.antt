@@ -1,7 +1,7 @@
 -- What the fields of a scheduler say of a flow that is to have other parameters, and the fields with one change more.
-use Rattle.std.proofs.Common.{◌≡◌, ◌≢◌, ℕ, ◌+◌, ◌%◌, ◌^◌, ◌<◌, ◌≤◌, Bool, true, false, not, ◌==◌, if◌then◌else◌, List, [], ◌∷◌, ◌++◌}
-use Rattle.std.proofs.Common.{◌⊎◌, filter, find, Option, None, Some, refl, sym, ap, ◌∙◌, subst, inl, inr, arith}
-use Rattle.std.specs.Prelude.{is_some, IsSome, sum_by}
+use Rattle.std.proofs.Common.{◌≡◌, ℕ, ◌+◌, ◌%◌, ◌^◌, ◌<◌, ◌≤◌, Bool, true, false, not, ◌==◌, if◌then◌else◌, List, [], ◌∷◌}
+use Rattle.std.proofs.Common.{◌⊎◌, find, Option, None, Some, refl, sym, ap, ◌∙◌, subst, inl, inr, arith}
+use Rattle.std.specs.Prelude.{is_some, sum_by}
 use Rattle.std.specs.Option.{option_map, option_map_or, option_and_then, IfSome, IsSomeAnd, MatchOption}
 use Rattle.std.proofs.lemmas.Bool.{cases_eq}
 use Rattle.std.proofs.lemmas.Bool.Decides.{nat_tests}
@@ -27,7 +27,7 @@ use Rattle.sched_calls.specs.declared.reply.Refusal.TheVariants.{NoPlace}
 use Rattle.sched_calls.specs.declared.reply.Entry.{Entry}
 use Rattle.sched_history.specs.Life.{Admission, Life, life_of, given_in, rests_in, flow_in_life, placed_in_life, flows_of}
 use Rattle.sched_history.specs.Life.{table_of}
-use Rattle.sched_history.specs.Refusal.{bad_sid, has_live, periodic_grants, other_grants}
+use Rattle.sched_history.specs.Refusal.{bad_sid, periodic_grants, other_grants}
 use Rattle.sched_history.specs.Time.{next_after}
 use Rattle.sched_history.specs.History.{PlacesAnew, AnswersChange, Answers, IsLegal}
 use Rattle.sched_history.specs.Machine.{TellsPlace, TakesMemory}

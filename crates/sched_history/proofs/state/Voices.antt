@@ -1,7 +1,7 @@
 -- The placed flow of a SID whose flow is unsolicited.
 use Rattle.std.proofs.Common.{◌≡◌, ℕ, ◌≤◌, Bool, true, false, ◌==◌, nat_lt, List, find, Option, None, Some, refl, ◌∙◌}
-use Rattle.std.proofs.Common.{subst, arith}
-use Rattle.std.specs.Prelude.{is_some, IsSome}
+use Rattle.std.proofs.Common.{arith}
+use Rattle.std.specs.Prelude.{IsSome}
 use Rattle.std.specs.Option.{option_map, option_map_or, option_and_then, IfSome}
 use Rattle.std.proofs.lemmas.Bool.Decides.{nat_tests}
 use Rattle.minislots.specs.declared.config.Config.{Config}
@@ -9,7 +9,6 @@ use Rattle.sched_calls.specs.declared.spec.FlowSpec.{FlowSpec}
 use Rattle.sched_calls.specs.declared.spec.FlowSpec.TheVariants.{Unsolicited, Polled, BestEffort}
 use Rattle.sched_calls.specs.FlowSpec.{is_periodic, periodic_slots}
 use Rattle.sched_calls.specs.declared.placement.Placement.{Placement}
-use Rattle.periodic.specs.Placement.{Placed}
 use Rattle.periodic.specs.Table.{IsPlaced, HasRoomToPoll}
 use Rattle.sched_history.specs.declared.scheduler.state.State.{State}
 use Rattle.sched_calls.specs.declared.reply.Entry.{Entry}

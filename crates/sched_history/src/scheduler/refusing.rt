@@ -291,13 +291,7 @@ impl<'a> Present<'a> {
     }
 
     // The refusal of a request that replaces others.
-    fn refuse_replace(
-        &self,
-        receiver: u8,
-        sid: u16,
-        amount: Amount,
-        heard: u64,
-    ) -> Option<Refusal>
+    fn refuse_replace(&self, receiver: u8, sid: u16, amount: Amount, heard: u64) -> Option<Refusal>
         ensures { result ≡ refusal_of self.now.config self.now.history
             (Call.Replace receiver sid amount heard) }
     {

@@ -1,5 +1,5 @@
 -- The present grants are those of the flow and of the others.
-use Rattle.std.proofs.Common.{◌≡◌, ℕ, ◌+◌, arith}
+use Rattle.std.proofs.Common.{◌≡◌, ◌+◌, arith}
 use Rattle.sched_calls.specs.FlowSpec.{grants_of}
 use Rattle.sched_history.specs.Refusal.{periodic_grants, other_grants}
 use Rattle.sched_history.proofs.state.Changing.{other-grants}

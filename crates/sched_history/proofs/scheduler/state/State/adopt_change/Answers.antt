@@ -1,6 +1,5 @@
 -- A flow is placed anew where it was placed elsewhere.
-use Rattle.std.proofs.Common.{true, false, Some, refl, ap, inl, inr, Result, Ok, Err, OnErr}
-use Rattle.sched_calls.specs.declared.call.Call.TheVariants as calls
+use Rattle.std.proofs.Common.{false, Some, refl, inl, inr, Result, Ok, Err, OnErr}
 use Rattle.sched_calls.specs.declared.reply.Reply.TheVariants as replies
 use Rattle.sched_history.proofs.lives.Finding.{good_sid}
 use Rattle.sched_history.proofs.state.ChangeMoves.{IsStateAfter-changed}
@@ -34,8 +33,14 @@ change-requires-clause-kind c = change-kind c.args.self.now c.requires.open.0 c.
 pub returns-in_err-adopt_anew-clause-memory : goal.returns-in_err-adopt_anew-clause-memory
 returns-in_err-adopt_anew-clause-memory c =
     on-err c.from_residual.result _ (λ h opens. takes-given c.args.self.now h c.args.sid c.args.spec opens
-    (inr (c.requires.periodic, (c.args.placement.now, beside c.args.self.now h c.args.sid c.args.spec opens
-    c.requires.periodic c.args.placement.now c.in_err-adopt_anew.ensures.memory))))
+    (inr (
+      c.requires.periodic,
+      (
+        c.args.placement.now,
+        beside c.args.self.now h c.args.sid c.args.spec opens
+            c.requires.periodic c.args.placement.now c.in_err-adopt_anew.ensures.memory,
+      ),
+    )))
 
 pub returns-then-not-branch-clause-differs : goal.returns-then-not-branch-clause-differs
 returns-then-not-branch-clause-differs c = λ is h opens answers.

@@ -1,6 +1,5 @@
 -- A flow keeps its placement, which is told anew.
 use Rattle.std.proofs.Common.{true, Some, refl, ap, inl, Result, Ok, Err, OnErr}
-use Rattle.sched_calls.specs.declared.call.Call.TheVariants as calls
 use Rattle.sched_calls.specs.declared.reply.Reply.TheVariants as replies
 use Rattle.sched_history.proofs.lives.Finding.{good_sid}
 use Rattle.sched_history.proofs.state.ChangeMoves.{IsStateAfter-changed}

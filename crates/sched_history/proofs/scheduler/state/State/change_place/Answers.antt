@@ -1,5 +1,5 @@
 -- A flow is placed anew, or there is no place for it.
-use Rattle.std.proofs.Common.{true, false, Some, refl, ap, inl, inr}
+use Rattle.std.proofs.Common.{false, Some, refl, ap, inl, inr}
 use Rattle.sched_calls.specs.declared.call.Call.TheVariants as calls
 use Rattle.sched_calls.specs.declared.reply.Reply.TheVariants as replies
 use Rattle.sched_calls.specs.declared.reply.Refusal.TheVariants.{NoPlace}

@@ -1,6 +1,5 @@
 -- A flow without a place has other parameters, and no placement.
 use Rattle.std.proofs.Common.{None, refl, inr}
-use Rattle.sched_calls.specs.declared.call.Call.TheVariants as calls
 use Rattle.sched_calls.specs.declared.reply.Reply.TheVariants as replies
 use Rattle.sched_history.proofs.state.ChangeMoves.{IsStateAfter-given}
 use Rattle.sched_history.proofs.state.Changing.{life, change-live, change-kind, change-nowhere, answers-given}

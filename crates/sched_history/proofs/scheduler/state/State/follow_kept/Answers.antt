@@ -1,6 +1,5 @@
 -- A flow keeps the placement that is handed in.
-use Rattle.std.proofs.Common.{true, false, Some, refl, ap, inl, inr}
-use Rattle.sched_calls.specs.declared.call.Call.TheVariants as calls
+use Rattle.std.proofs.Common.{true, Some, refl, ap, inl}
 use Rattle.sched_calls.specs.declared.reply.Reply.TheVariants as replies
 use Rattle.sched_history.proofs.lives.Finding.{good_sid}
 use Rattle.sched_history.proofs.state.ChangeMoves.{IsStateAfter-changed}

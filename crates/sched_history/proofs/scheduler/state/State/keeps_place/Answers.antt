@@ -3,7 +3,7 @@ use Rattle.std.proofs.Common.{◌≡◌, Option, None, Some, sym, ◌∙◌}
 use Rattle.std.specs.Option.{option_map, IfSome}
 use Rattle.sched_calls.specs.declared.spec.FlowSpec.{FlowSpec}
 use Rattle.sched_calls.specs.FlowSpec.{has_place_of}
-use Rattle.flow_book.specs.Flows.{LiveFlow, flow_of}
+use Rattle.flow_book.specs.Flows.{LiveFlow}
 use Rattle.sched_history.proofs.scheduler.state.State.keeps_place.Goals as goal
 
 of-found : (o : Option LiveFlow) (old spec : FlowSpec) → option_map (λ f. f.spec) o ≡ Some old
