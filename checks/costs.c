@@ -1,7 +1,8 @@
 /*
  * What calls of the library cost; checks/cost_from_c reads what it prints. `calls`: a hundred thousand drawn calls,
  * each where those before it are answered: the nanoseconds of a call by processor time, the middle of five runs, how
- * many were refused, and how many bytes the MAPs have. `no place`, `full build`, `build beside reserves` and `build by
+ * many were refused, and how many bytes the MAPs have. `calls with changes`: the same where twenty in a hundred change,
+ * replace, rest or wake. `no place`, `full build`, `build beside reserves` and `build by
  * profiles`: the microseconds of the costliest admission and of the costliest builds, without opportunities, with the
  * most, and where bursts are sent by descriptors.
  * `longest`: of a million drawn calls the eight that took longest by the clock, and the eight by processor time.
@@ -150,6 +151,15 @@ static double time_build(int opportunities, uint32_t has_bursts) {
   return took;
 }
 
+/* Prints what drawn calls take. */
+static void print_calls(const char *name) {
+  unsigned long refused, bytes;
+  double took[RUNS];
+  draw();
+  for (int run = 0; run < RUNS; run++) took[run] = time_calls(&refused, &bytes);
+  printf("%s: %.0f nanoseconds each, %lu refused, %lu bytes\n", name, middle(took) / CALLS, refused, bytes);
+}
+
 /* The longest calls of a run so far by one of two times, the longest first. */
 struct longest {
   struct {
@@ -177,7 +187,7 @@ static void keep(struct longest *longest, size_t number, const struct mapsched_c
 
 static void print_longest(const struct longest *longest) {
   static const char *const names[] = {"admission", "removal", "request", "progress", "build", "skip", "status",
-    "opportunity", "header"};
+    "opportunity", "header", "replacement", "change", "rest", "waking"};
   for (int i = 0; i < TOLD; i++)
     printf("longest by %s: call %zu, %s %s, %.0f ns by the clock, %.0f by processor time\n",
            longest->by ? "processor time" : "the clock", longest->calls[i].number, names[longest->calls[i].call.kind],
@@ -207,21 +217,20 @@ static void time_each(void) {
 }
 
 int main(void) {
-  double script[RUNS], admissions[RUNS], builds[RUNS], beside[RUNS], by_profiles[RUNS];
-  unsigned long refused, bytes;
-  draw();
+  double admissions[RUNS], builds[RUNS], beside[RUNS], by_profiles[RUNS];
+  print_calls("calls");
   for (int run = 0; run < RUNS; run++) {
-    script[run] = time_calls(&refused, &bytes);
     admissions[run] = time_admission();
     builds[run] = time_build(0, 0);
     beside[run] = time_build(16, 0);
     by_profiles[run] = time_build(0, 1);
   }
-  printf("calls: %.0f nanoseconds each, %lu refused, %lu bytes\n", middle(script) / CALLS, refused, bytes);
   printf("no place: %.1f microseconds\n", middle(admissions) / 1000);
   printf("full build: %.1f microseconds\n", middle(builds) / 1000);
   printf("build beside reserves: %.1f microseconds\n", middle(beside) / 1000);
   printf("build by profiles: %.1f microseconds\n", middle(by_profiles) / 1000);
   time_each();
+  changes_in_hundred = 20;
+  print_calls("calls with changes");
   return 0;
 }

@@ -37,9 +37,20 @@ static struct mapsched_call ranging_at(const struct work *mine, int number) {
     .ranging_start = (uint8_t)(number % 17), .ranging_end = 10, .data_start = 4, .data_end = (uint8_t)(number % 19)};
 }
 
+/* A telephone rests and wakes; another flow has another ceiling, or tells the depth of its queue. */
+static struct mapsched_call change_at(const struct work *mine, int number) {
+  if (mine->sid % 4 == 0)
+    return (struct mapsched_call){.kind = number % 32 == 5 ? MAPSCHED_REST : MAPSCHED_WAKE, .sid = mine->sid};
+  if (number % 32 == 5)
+    return (struct mapsched_call){.kind = MAPSCHED_CHANGE, .flow = MAPSCHED_BEST_EFFORT, .sid = mine->sid,
+      .priority = 4, .rate = 640000 + (uint32_t)number, .burst = 1600};
+  return (struct mapsched_call){
+    .kind = MAPSCHED_REPLACE, .sid = mine->sid, .bytes = (uint32_t)number, .minislot = mine->next};
+}
+
 /*
- * The call of a thread with this number: its flow is admitted, asks and is asked for, MAPs are built, and its modem
- * gets opportunities to range.
+ * The call of a thread with this number: its flow is admitted and changed, asks and is asked for, MAPs are built, and
+ * its modem gets opportunities to range.
  */
 static struct mapsched_call call_at(const struct work *mine, int number) {
   if (number == 0 && mine->sid % 4 == 0)
@@ -49,6 +60,7 @@ static struct mapsched_call call_at(const struct work *mine, int number) {
     return (struct mapsched_call){.kind = MAPSCHED_ADMIT, .flow = MAPSCHED_BEST_EFFORT, .sid = mine->sid, .priority = 3,
       .rate = 640000, .burst = 1600};
   if (number % 16 == 1 || number % 16 == 9) return ranging_at(mine, number);
+  if (number % 16 == 5) return change_at(mine, number);
   if (number % 4 == 0) return (struct mapsched_call){.kind = MAPSCHED_BUILD, .minislot = mine->next - 40};
   if (number % 4 == 1) return (struct mapsched_call){.kind = MAPSCHED_STATUS, .sid = mine->sid};
   if (number % 4 == 2) return (struct mapsched_call){.kind = MAPSCHED_HEARD, .minislot = mine->next - 40};

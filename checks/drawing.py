@@ -33,6 +33,8 @@ class Drawing:
         kinds = ["best_effort", "polled", "unsolicited"]
         self.kinds = self.draw.choice([kinds, kinds + kinds[:1] * 6, kinds[1:], kinds[2:]])
         self.ranging = self.draw.choice([[], ["reserve"] * 3 + ["header"], ["reserve"] * 24 + ["header"]])
+        few = ["replace"] * 3 + ["change"] * 3 + ["rest", "wake"]
+        self.changing = self.draw.choice([[], [], few, few * 3])
         edges = self.edges()
         self.counts = [1, 64, 100, 544, 1522, 3000, 9000, 100000, MOST_BYTES, *edges]
         self.sizes = self.draw.choice([[0, 1, 20, 60, 60, 200, 200, 5000], [1, 1, 8], [*edges, 20]])
@@ -115,7 +117,9 @@ class Drawing:
         return {"rate": rate, "burst": burst if self.draw.random() < 0.95 else 63}
 
     def flow(self):
-        kind = self.draw.choice(self.kinds)
+        return self.flow_of(self.draw.choice(self.kinds))
+
+    def flow_of(self, kind):
         if kind == "best_effort":
             return {"kind": kind, "priority": self.draw.choice([*range(8)] * 8 + [8, 255]),
                     **self.ceiling()}
@@ -151,14 +155,18 @@ class Drawing:
     def next_call(self):
         receiver, kinds = self.receiver(), ["ask"] * 9 + ["build"] * self.builds
         kinds += ["admit"] * self.admissions + ["heard"] * 2
-        kind = self.draw.choice(kinds + ["status", "status", "remove", "skip"] + self.ranging)
+        kind = self.draw.choice(kinds + ["status", "status", "remove", "skip"] + self.ranging + self.changing)
         if kind == "admit":
             return {"call": kind, "sid": self.sid(False), "flow": self.flow()}
         if kind in ("remove", "status"):
             return {"call": kind, "sid": self.sid(True)}
-        if kind == "ask":
-            asked = {"sid": self.sid(True), **self.amount()}
+        if kind in ("ask", "replace"):
+            asked = {"sid": self.sid(True), **self.amount(kind)}
             return {"call": kind, "receiver": receiver, **asked, "heard": self.near(receiver)}
+        if kind == "change":
+            return self.change(self.sid(True))
+        if kind in ("rest", "wake"):
+            return {"call": kind, "sid": self.unsolicited()}
         if kind == "heard":
             return {"call": kind, "receiver": receiver, "upto": self.near(receiver)}
         if kind == "reserve":
@@ -167,8 +175,24 @@ class Drawing:
             return {"call": kind, **{key: self.draw.choice([*range(16)] * 3 + [16, 255]) for key in HEADING}}
         return {"call": kind, "now": self.clock()}
 
-    def amount(self):
-        """How much a request asks for: bytes, and one in five minislots."""
+    def change(self, sid):
+        """A change of some parameters of a live flow, or of all, mostly to those of its kind."""
+        drawn, live = self.flow(), self.plain.flows.get(sid)
+        if live and self.draw.random() < 0.9:
+            drawn = self.flow_of(live.kind)
+            names = [it for it in drawn if self.draw.random() < self.draw.choice([0.1, 0.3, 0.6])]
+            drawn = {**live.spec, **{it: drawn[it] for it in names}}
+        return {"call": "change", "sid": sid, "flow": drawn}
+
+    def unsolicited(self):
+        """An SID, mostly that of a live flow of unsolicited grants."""
+        wanted = [sid for sid, flow in self.plain.flows.items() if flow.kind == "unsolicited"]
+        return self.draw.choice(wanted) if wanted and self.draw.random() < 0.8 else self.sid(True)
+
+    def amount(self, kind="ask"):
+        """How much a request asks for: bytes, and one in five minislots. One that replaces others may ask for none."""
+        if kind == "replace" and self.draw.random() < 0.25:
+            return {"bytes": 0}
         if self.draw.random() < 0.2:
             return {"slots": self.draw.choice(self.asked)}
         count = self.draw.choice(self.counts)
@@ -201,6 +225,26 @@ class Drawing:
             calls.append(call)
             lines.append(line_of(self.plain.call(call)))
         return calls, lines
+
+
+class Changing(Drawing):
+    """A script on a channel on which few grants and polls may be in an interval, and few of them have room in a frame,
+    whose flows are often changed and often rest, and that may show only some of those that wait."""
+
+    MORE, FRAMES = (100, 200), (16, 40, 40, 64)
+
+    def __init__(self, random_numbers):
+        super().__init__(random_numbers)
+        self.sids, self.admissions, self.builds = self.sids[: self.draw.randint(3, 8)], 6, 8
+        self.changing = ["replace"] * 6 + ["change"] * 16 + ["rest"] * 6 + ["wake"] * 2
+        self.kinds = self.draw.choice([["best_effort"], ["unsolicited"], ["unsolicited", "polled", "best_effort"]])
+        most = self.plain.capacity(self.config["frame"] - self.config["req_slots"])
+        self.sizes = [1, 1, *(max(1, most * parts // 12) for parts in (1, 3, 4, 6, 9, 12))]
+        self.counts = [1, 64, 100, *(max(1, most * parts // 4) for parts in (1, 1, 2, 3, 4, 5, 8, 20))]
+
+    def drawn_limits(self):
+        limits = {"periodic": self.draw.choice([2, 3, 5, 8]), "pending": self.draw.choice([1, 2, 64])}
+        return {name: number for name, number in limits.items() if number != MISSING[name]}
 
 
 class Blocked(Drawing):
@@ -325,7 +369,8 @@ class Limited(Drawing):
         receiver = self.draw.randrange(self.config["receivers"])
         least, last = self.plain.progress[receiver], self.plain.next - 1
         heard = self.draw.randint(min(least, last), last)
-        return {"call": "ask", "receiver": receiver, "sid": sid, **self.amount(), "heard": max(0, heard)}
+        kind = self.draw.choice(["ask"] * 3 + (["replace"] if self.changing else []))
+        return {"call": kind, "receiver": receiver, "sid": sid, **self.amount(kind), "heard": max(0, heard)}
 
 
 class Waiting(Limited):
@@ -413,8 +458,9 @@ def limited_of(random_numbers):
 
 
 def drawing_of(random_numbers):
-    """A drawn script: of ten one begins so that Reserves lapse, and one so that its MAPs are crowded."""
-    return random_numbers.choice([Drawing] * 8 + [Blocked, Crowded])(random_numbers)
+    """A drawn script: of ten one changes its flows often, one begins so that Reserves lapse, and one so that its MAPs
+    are crowded."""
+    return random_numbers.choice([Drawing] * 7 + [Changing, Blocked, Crowded])(random_numbers)
 
 
 def as_written(entries):

@@ -45,6 +45,27 @@ static struct mapsched_call admission(uint16_t sid) {
   return call;
 }
 
+/* How many calls of a hundred change a flow: none where nobody says so, and then what is drawn is as without them. */
+static uint64_t changes_in_hundred;
+static struct mapsched_call wanted[71];
+
+/* A flow's depth of queue; its rest and its waking; other parameters of its kind, or those that it has. */
+static struct mapsched_call changing(uint16_t sid, uint64_t next) {
+  struct mapsched_call call = wanted[sid];
+  uint64_t kind = below(6);
+  if (kind < 2)
+    return (struct mapsched_call){.kind = MAPSCHED_REPLACE, .receiver = (uint8_t)below(4), .sid = sid,
+      .bytes = (uint32_t)below(6000), .minislot = next - 1};
+  if (kind < 4) return (struct mapsched_call){.kind = kind == 2 ? MAPSCHED_REST : MAPSCHED_WAKE, .sid = sid};
+  if (kind == 4) {
+    do call = admission(sid);
+    while (call.flow != wanted[sid].flow);
+  }
+  call.kind = MAPSCHED_CHANGE;
+  call.sid = sid;
+  return call;
+}
+
 /* An opportunity to range, one in sixteen of a length that no frame has; or a header, some with an exponent of 16. */
 static struct mapsched_call ranging(void) {
   struct mapsched_call call = {.kind = MAPSCHED_RESERVE, .usage = (uint32_t)below(2)};
@@ -61,7 +82,8 @@ static struct mapsched_call drawn(uint64_t next) {
   uint16_t sid = (uint16_t)(below(70) + 1);
   uint8_t receiver = (uint8_t)below(4);
   uint64_t kind = below(100);
-  if (kind <= 3) return admission(sid);
+  if (changes_in_hundred && below(100) < changes_in_hundred) return changing(sid, next);
+  if (kind <= 3) return wanted[sid] = admission(sid);
   if (kind == 4) return (struct mapsched_call){.kind = MAPSCHED_REMOVE, .sid = sid};
   if (kind <= 14) return (struct mapsched_call){.kind = MAPSCHED_BUILD, .minislot = next};
   if (kind == 15) return (struct mapsched_call){.kind = MAPSCHED_SKIP, .minislot = next + 1};

@@ -24,13 +24,15 @@ static uint64_t below(uint64_t bound) {
 /* Whether one of so many is drawn. */
 static int is_one_in(uint64_t bound) { return below(bound) == 0; }
 
-/* Where a drawing stands: the configuration, which SIDs it has and which are live, and the scheduler's times. */
+/* Where a drawing stands: the configuration, which SIDs it has and which are live, what these were given last, and the
+ * scheduler's times. */
 static struct {
   struct mapsched_config config;
   size_t sids;
   uint16_t sid[MOST_SIDS];
   uint8_t is_live[MOST_SIDS];
-  uint64_t admissions, ranging, kinds;
+  struct mapsched_call given[MOST_SIDS];
+  uint64_t admissions, ranging, changes, kinds;
   int has_small_grants;
   uint64_t next, progress[MOST_RECEIVERS];
 } drawing;
@@ -125,7 +127,7 @@ static struct mapsched_config drawn_config(void) {
 /* Begins a drawing. */
 static void begin_drawing(uint64_t seed) {
   static const size_t sids[] = {3, 12, 12, MOST_SIDS}, admissions[] = {4, 4, 60}, kinds[] = {3, 3, 9, 2};
-  static const size_t ranging[] = {0, 4, 25};
+  static const size_t ranging[] = {0, 4, 25}, changes[] = {0, 6, 20};
   state = seed;
   memset(&drawing, 0, sizeof drawing);
   drawing.config = drawn_config();
@@ -133,6 +135,7 @@ static void begin_drawing(uint64_t seed) {
   for (size_t i = 0; i < drawing.sids; i++) drawing.sid[i] = (uint16_t)(1 + below(MAPSCHED_MAX_SID));
   drawing.admissions = ONE_OF(admissions);
   drawing.ranging = ONE_OF(ranging);
+  drawing.changes = ONE_OF(changes);
   drawing.kinds = ONE_OF(kinds);
   drawing.has_small_grants = is_one_in(2);
   drawing.next = drawing.config.start;
@@ -221,6 +224,46 @@ static struct mapsched_call drawn_ask(void) {
   return call;
 }
 
+/* A request that supersedes those before, some for nothing. */
+static struct mapsched_call drawn_replace(void) {
+  struct mapsched_call call = drawn_ask();
+  call.kind = MAPSCHED_REPLACE;
+  if (!call.has_slots && is_one_in(4)) call.bytes = 0;
+  return call;
+}
+
+/* What a live flow was given last; of one that does not live, zeroes. */
+static struct mapsched_call given_to(uint16_t sid) {
+  for (size_t i = 0; i < drawing.sids; i++)
+    if (drawing.sid[i] == sid && drawing.is_live[i]) return drawing.given[i];
+  return (struct mapsched_call){.kind = 0};
+}
+
+/* A change, seldom to another kind of flow; one in two leaves what places a flow, and seldom all of it. */
+static struct mapsched_call drawn_change(void) {
+  uint16_t sid = drawn_sid(1);
+  struct mapsched_call given = given_to(sid), call = drawn_admission();
+  while (call.flow != given.flow && !is_one_in(12)) call = drawn_admission();
+  if (call.flow == given.flow && is_one_in(2)) {
+    call.size = given.size;
+    call.interval_us = given.interval_us;
+    call.jitter_us = given.jitter_us;
+    call.grants = given.grants;
+  }
+  if (is_one_in(12)) call = given;
+  call.kind = MAPSCHED_CHANGE;
+  call.sid = sid;
+  return call;
+}
+
+/* A flow is changed, tells its queue's depth, rests or wakes. */
+static struct mapsched_call drawn_changing(void) {
+  uint64_t kind = below(6);
+  if (kind < 2) return drawn_replace();
+  if (kind < 4) return drawn_change();
+  return (struct mapsched_call){.kind = kind == 4 ? MAPSCHED_REST : MAPSCHED_WAKE, .sid = drawn_sid(1)};
+}
+
 /* An opportunity, mostly short and of a length that a frame has, and seldom of no usage. */
 static struct mapsched_call drawn_reserve(void) {
   uint32_t room = drawing.config.frame - drawing.config.req_slots;
@@ -241,9 +284,12 @@ static struct mapsched_call drawn_header(void) {
 
 /* The next call. */
 static struct mapsched_call drawn_call(void) {
-  uint64_t kind = below(22 + drawing.admissions + drawing.ranging);
+  uint64_t kind = below(22 + drawing.admissions + drawing.changes + drawing.ranging);
   struct mapsched_call call = {.kind = MAPSCHED_STATUS, .sid = drawn_sid(1)};
-  if (is_one_in(100)) return (struct mapsched_call){.kind = 9 + (uint32_t)below(UINT32_MAX - 8), .sid = call.sid};
+  if (is_one_in(100)) {
+    uint32_t unknown = MAPSCHED_WAKE + 1 + (uint32_t)below(UINT32_MAX - MAPSCHED_WAKE);
+    return (struct mapsched_call){.kind = unknown, .sid = call.sid};
+  }
   if (kind < 9) return drawn_ask();
   if (kind < 15) return (struct mapsched_call){.kind = MAPSCHED_BUILD, .minislot = drawn_clock()};
   if (kind == 15) return (struct mapsched_call){.kind = MAPSCHED_SKIP, .minislot = drawn_clock()};
@@ -253,8 +299,11 @@ static struct mapsched_call drawn_call(void) {
     return (struct mapsched_call){.kind = MAPSCHED_HEARD, .receiver = receiver, .minislot = drawn_near(receiver)};
   }
   if (kind < 22) return call;
-  if (kind < 22 + drawing.admissions) return drawn_admission();
-  return kind == 22 + drawing.admissions ? drawn_header() : drawn_reserve();
+  kind -= 22;
+  if (kind < drawing.admissions) return drawn_admission();
+  kind -= drawing.admissions;
+  if (kind < drawing.changes) return drawn_changing();
+  return kind == drawing.changes ? drawn_header() : drawn_reserve();
 }
 
 /* Where the drawing stands after a call and its reply. */
@@ -265,7 +314,8 @@ static void follow(const struct mapsched_call *call, const struct mapsched_reply
     drawing.progress[call->receiver] = call->minislot;
   for (size_t i = 0; i < drawing.sids; i++) {
     if (drawing.sid[i] != call->sid) continue;
-    if (reply->kind == MAPSCHED_ADMITTED || reply->kind == MAPSCHED_PLACED) drawing.is_live[i] = 1;
+    int gives = reply->kind == MAPSCHED_ADMITTED || reply->kind == MAPSCHED_PLACED || reply->kind == MAPSCHED_CHANGED;
+    if (gives) drawing.is_live[i] = 1, drawing.given[i] = *call;
     if (reply->kind == MAPSCHED_REMOVED) drawing.is_live[i] = 0;
   }
 }

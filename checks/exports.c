@@ -1,7 +1,7 @@
 /*
  * Makes every call of the header that may run out of memory. Where one does, nothing that the caller sees may have
  * changed, and the call is made once more. Prints `whole` at the end, or `out of memory` where it ran out again. The
- * calls for opportunities and headers never do.
+ * calls for opportunities, headers and requests never do, nor those by which a flow rests and wakes.
  */
 #include "base_configuration.h"
 #include <stddef.h>
@@ -51,6 +51,15 @@ static const struct mapsched_call voice = {.kind = MAPSCHED_ADMIT,
                                            .jitter_us = 800,
                                            .grants = 2};
 static const struct mapsched_call data = {.kind = MAPSCHED_ADMIT, .flow = MAPSCHED_BEST_EFFORT, .sid = 6};
+static const struct mapsched_call change = {.kind = MAPSCHED_CHANGE,
+                                            .flow = MAPSCHED_UNSOLICITED,
+                                            .sid = 5,
+                                            .size = 100,
+                                            .interval_us = 10000,
+                                            .jitter_us = 800,
+                                            .grants = 3};
+static const struct mapsched_call rest = {.kind = MAPSCHED_REST, .sid = 5}, wake = {.kind = MAPSCHED_WAKE, .sid = 5};
+static const struct mapsched_call replace = {.kind = MAPSCHED_REPLACE, .sid = 6, .bytes = 100, .minislot = 801};
 static const struct mapsched_call build = {.kind = MAPSCHED_BUILD, .minislot = 760};
 static const struct mapsched_call station = {
   .kind = MAPSCHED_RESERVE, .usage = MAPSCHED_STATION, .slots = 4, .sid = 9};
@@ -90,6 +99,7 @@ static void make_without(const struct mapsched_call *call, uint32_t reply) {
 static uint32_t opens(void) { return mapsched_open(&now.scheduler, &config); }
 static uint32_t admits_voice(void) { return mapsched_call(&now.scheduler, &stamp, &voice, &now.reply); }
 static uint32_t admits_data(void) { return mapsched_call(&now.scheduler, &stamp, &data, &now.reply); }
+static uint32_t changes_voice(void) { return mapsched_call(&now.scheduler, &stamp, &change, &now.reply); }
 static uint32_t builds(void) { return mapsched_call(&now.scheduler, &stamp, &build, &now.reply); }
 static uint32_t writes(void) { return mapsched_history(&now.scheduler, now.text, sizeof now.text, &now.length); }
 static uint32_t opens_journal(void) {
@@ -122,17 +132,22 @@ static void alone(void) {
   make(opens);
   make(admits_voice);
   make(admits_data);
+  make(changes_voice);
+  if (now.reply.kind != MAPSCHED_CHANGED || now.reply.starts_count != 6) end("another place", 3);
+  make_without(&rest, MAPSCHED_NOTED);
+  make_without(&wake, MAPSCHED_NOTED);
   make_without(&station, MAPSCHED_RESERVED);
   make_without(&header, MAPSCHED_NOTED);
   make(builds);
   make(decodes);
   make(encodes);
   if (now.length != now.reply.length || memcmp(now.payload, now.reply.payload, now.length) != 0) end("other bytes", 3);
+  make_without(&replace, MAPSCHED_TAKEN);
   make(opens_journal);
   make(writes_lines);
   make(writes);
   make(audits);
-  if (now.place != 5 || mapsched_close(&now.scheduler) != MAPSCHED_OK) end("not five entries", 3);
+  if (now.place != 9 || mapsched_close(&now.scheduler) != MAPSCHED_OK) end("not nine entries", 3);
 }
 
 /* Two workers. */

@@ -11,7 +11,7 @@
 #include <stdio.h>
 #include <stdlib.h>
 
-enum { SCRIPTS = 10000, SEED = 20261125, FILLED = 0xa5, REFUSALS = 20, REASONS = 7, KINDS = MAPSCHED_RESERVED + 1 };
+enum { SCRIPTS = 10000, SEED = 20261125, FILLED = 0xa5, REFUSALS = 23, REASONS = 7, KINDS = MAPSCHED_CHANGED + 1 };
 
 /* The bytes of a call up to its last number: what is behind it in the struct is nobody's. */
 enum { NUMBERS = offsetof(struct mapsched_call, has_slots) + 1 };

@@ -1,9 +1,10 @@
 /*
  * Calls on a channel where many flows live; checks/figures has their instructions counted in `measured` alone.
  * `many_flows WHAT LIVE WAITING TIMES`: so many best effort flows are live and so many of them wait, spread among 8,000
- * SIDs, and WHAT (`build`, `ask`, `status`, `admit`, `remove`) is called so many times. `voice` is a build where they
- * are unsolicited flows that all have their one grant in a cycle, or in a frame where 16 live or fewer. Prints a number
- * for all replies, which is the same for the same replies. `opening` prints the bytes of a scheduler for LIVE flows.
+ * SIDs, and WHAT (`build`, `ask`, `replace`, `status`, `change` of a ceiling, `admit`, `remove`) is called so many
+ * times. `voice` is a build where they are unsolicited flows that all have their one grant in a cycle, or in a frame
+ * where 16 live or fewer. Prints a number for all replies, which is the same for the same replies. `opening` prints the
+ * bytes of a scheduler for LIVE flows.
  */
 #include "calling.h"
 #include <inttypes.h>
@@ -52,8 +53,15 @@ static struct mapsched_call voice(uint16_t sid, int is_each) {
     .interval_us = is_each ? 25600 : 64 * 25600, .grants = 1};
 }
 
-static struct mapsched_call ask(uint16_t sid, uint32_t bytes, uint64_t next) {
-  return (struct mapsched_call){.kind = MAPSCHED_ASK, .sid = sid, .bytes = bytes, .minislot = next - 1};
+/* A request: an ask, or one that supersedes those before. */
+static struct mapsched_call request(uint32_t kind, uint16_t sid, uint32_t bytes, uint64_t next) {
+  return (struct mapsched_call){.kind = kind, .sid = sid, .bytes = bytes, .minislot = next - 1};
+}
+
+/* Another ceiling than the flow has. */
+static struct mapsched_call ceiling(uint16_t sid, long number) {
+  return (struct mapsched_call){.kind = MAPSCHED_CHANGE, .flow = MAPSCHED_BEST_EFFORT, .sid = sid,
+    .rate = 64000 + (uint32_t)number, .burst = 1600};
 }
 
 /* Has a frame built, and gives the start of the next. */
@@ -83,16 +91,19 @@ int main(int count, char **words) {
   }
   next = build(next, prepare);
   for (long i = 0; i < waiting; i++) {
-    struct mapsched_call call = ask(sid_of(i, waiting), 1000000, next);
+    struct mapsched_call call = request(MAPSCHED_ASK, sid_of(i, waiting), 1000000, next);
     prepare(&call);
   }
   for (long i = 0; i < times; i++) {
     uint16_t sid = sid_of(i % 64, 64);
     struct mapsched_call status = {.kind = MAPSCHED_STATUS, .sid = sid}, remove = {.kind = MAPSCHED_REMOVE, .sid = sid};
-    struct mapsched_call asked = ask(sid, 100, next), admit = best_effort(sid);
+    struct mapsched_call ask = request(MAPSCHED_ASK, sid, 100, next), admit = best_effort(sid);
+    struct mapsched_call replace = request(MAPSCHED_REPLACE, sid, 100, next), change = ceiling(sid, i);
     if (is_voice || !strcmp(what, "build")) next = build(next, tell);
-    if (!strcmp(what, "ask")) tell(&asked);
+    if (!strcmp(what, "ask")) tell(&ask);
+    if (!strcmp(what, "replace")) tell(&replace);
     if (!strcmp(what, "status")) tell(&status);
+    if (!strcmp(what, "change")) tell(&change);
     if (!strcmp(what, "remove")) tell(&remove), prepare(&admit);
     if (!strcmp(what, "admit")) prepare(&remove), tell(&admit);
   }

@@ -1,30 +1,46 @@
 """A plain scheduler: the rules of the profile read again, apart from the code that is proved. It keeps all grants of a
-flow and goes through every window of them, tries every minislot for a placement, and asks every flow at each offset. It
-is slow, and says what the program has to say."""
+flow and goes through every window of them, tries every minislot for a placement (plain_places.py), and asks every flow
+at each offset. It is slow, and says what the program has to say; and a plain auditor, which says what an audit has to
+say."""
 
+import copy
 import itertools
 
 from plain_bursts import Bursts, ceiling_of
+from plain_places import Places
 from texts import LIMITS, completed
 
-ALL_MODEMS, BROADCAST_IUC, INITIAL, STATION, NULL = 0x3FFF, 1, 3, 4, 7
-# The most periodic starts in a place of the cycle, data grants of a MAP, and data and pending grants of one together.
-MOST_STARTS, MOST_GRANTS, MOST_TOGETHER = 40, 93, 157
+ALL_MODEMS, REQUEST, INITIAL, STATION, NULL = 0x3FFF, 1, 3, 4, 7
+# The most data grants of a MAP, and data and pending grants of one together.
+MOST_GRANTS, MOST_TOGETHER = 93, 157
 MOST_BYTES, LAST_CLOCK, AHEAD = 1048560, 2**60, 4096
 MOST_RESERVES, MOST_WAITING, LAST_MAP = 64, 16, 64
 HEADING = ["ucd_count", "ranging_start", "ranging_end", "data_start", "data_end"]
-MICROS_OF_TICK = 25, 4
+# The parameters that a flow's place in the cycle goes by, and those of its ceiling.
+PLACING, CEILING = ("interval_us", "jitter_us", "size", "grants"), ("rate", "burst")
 
 
 class Flow:
-    """A live flow: its parameters, what it asked, its data grants as (start, bytes), and its place in the cycle. Its
-    requests that wait are in two batches, each as (minislot at which it was heard, bytes asked with it)."""
+    """A live flow: its parameters, what it asked, its data grants as (start, bytes), how many of them were before the
+    present period of its ceiling, its place in the cycle, and whether it rests. Its requests that wait are in two
+    batches, each as (minislot at which it was heard, bytes asked with it)."""
 
     def __init__(self, spec):
         self.spec, self.kind, self.asked, self.grants = spec, spec["kind"], 0, []
         self.first, self.second = [], []
-        self.phase = self.offset = self.interval = 0
-        self.starts = {}
+        self.phase = self.offset = self.interval = self.before = 0
+        self.starts, self.rests = {}, False
+
+    def changed(self, spec):
+        """The flow with other parameters: it is awake, its ceiling begins anew where a number of it is another, and it
+        has no place where one of those is another that this goes by."""
+        other = copy.copy(self)
+        other.spec, other.rests = spec, False
+        if any(spec.get(it) != self.spec.get(it) for it in CEILING):
+            other.before = len(self.grants)
+        if any(spec.get(it, 1) != self.spec.get(it, 1) for it in PLACING):
+            other.starts = {}
+        return other
 
     def granted(self):
         return sum(count for _, count in self.grants)
@@ -45,6 +61,11 @@ class Flow:
         else:
             self.second.append((heard, self.asked))
 
+    def replace(self, count, heard):
+        """A request in the place of those before: it is the first batch alone, and none where it is for nothing."""
+        self.asked = self.granted() + count
+        self.first, self.second = [(heard, self.asked)] if count else [], []
+
     def move_on(self):
         """Behind a MAP the second batch becomes the first where all bytes asked with the first are granted."""
         if self.outstanding() == 0:
@@ -55,6 +76,10 @@ class Flow:
     def since(self):
         """The least minislot at which a request of its batches was heard."""
         return min(heard for heard, _ in self.first + self.second)
+
+    def last(self):
+        """The start of its last grant, and a minislot before all where it has none."""
+        return self.grants[-1][0] if self.grants else -1
 
     def rank(self):
         return 8 if self.kind == "polled" else self.spec["priority"]
@@ -91,7 +116,7 @@ def refuse(number, *value):
     raise Refused(number, *value)
 
 
-class Scheduler:
+class Scheduler(Places):
     """The scheduler of a configuration, which is a lawful one. Each call gives the reply as a history has it."""
 
     # How many minislots a burst takes, and how long a flow waits.
@@ -108,11 +133,6 @@ class Scheduler:
 
     def slots_for(self, count):
         return self.bursts.length(count)
-
-    def slots_of(self, micros):
-        """The minislots of a time, and what is left over, in quarters of a tick's part."""
-        ticks, quarters = MICROS_OF_TICK
-        return divmod(micros * quarters, ticks * self.config["ticks"])
 
     # The calls.
 
@@ -143,14 +163,36 @@ class Scheduler:
         if len(self.flows) >= self.limits["flows"]:
             refuse(4)
         flow = self.Flow(spec)
-        if flow.kind == "best_effort":
-            self.flows[sid] = flow
-            return {"kind": "admitted"}
-        if self.periodic() + flow.each() > self.limits["periodic"]:
-            refuse(5)
-        reply = self.place(flow) or refuse(6)
+        reply = {"kind": "admitted", **self.take_in(flow)}
         self.flows[sid] = flow
         return reply
+
+    def change(self, call):
+        sid, spec = call["sid"], call["flow"]
+        flow = self.live(sid)
+        if spec["kind"] != flow.kind:
+            refuse(21)
+        self.check_parameters(spec)
+        changed = flow.changed(spec)
+        self.flows = {other: it for other, it in self.flows.items() if other != sid}
+        try:
+            reply = {"kind": "changed", **self.take_in(changed)}
+        except Refused:
+            self.flows[sid] = flow
+            raise
+        self.flows[sid] = changed
+        return reply
+
+    def take_in(self, flow):
+        """A flow that is to be one of those that live, which has a place in the cycle or gets one: what is told of
+        it."""
+        if flow.kind == "best_effort":
+            return {}
+        if self.periodic() + flow.each() > self.limits["periodic"]:
+            refuse(5)
+        if not flow.starts and not self.place(flow):
+            refuse(6)
+        return self.told_of(flow)
 
     def periodic(self):
         """How many grants and polls the live flows have in an interval, all together."""
@@ -182,20 +224,30 @@ class Scheduler:
         return {"kind": "removed"}
 
     def ask(self, call):
+        flow, count = self.request(call, 1)
+        flow.ask(count, call["heard"])
+        return {"kind": "taken"}
+
+    def replace(self, call):
+        flow, count = self.request(call, 0)
+        flow.replace(count, call["heard"])
+        return {"kind": "taken"}
+
+    def request(self, call, least):
+        """The flow that a request is for, and its bytes, which are as many as this or more."""
         flow = self.live(call["sid"])
         if flow.kind == "unsolicited":
             refuse(8)
         if call["receiver"] >= self.config["receivers"]:
             refuse(9)
         count = self.asked(call)
-        if not 1 <= count <= MOST_BYTES:
+        if not least <= count <= MOST_BYTES:
             refuse(10)
         if call["heard"] < self.progress[call["receiver"]]:
             refuse(11, self.progress[call["receiver"]])
         if call["heard"] >= self.next:
             refuse(12, self.next)
-        flow.ask(count, call["heard"])
-        return {"kind": "taken"}
+        return flow, count
 
     def asked(self, call):
         """The bytes that a request asks for: those that it names, or the most of a data grant of so many minislots."""
@@ -257,63 +309,24 @@ class Scheduler:
         self.heading = {key: call[key] for key in HEADING}
         return {"kind": "noted"}
 
+    def rest(self, call):
+        flow = self.unsolicited(call["sid"])
+        if self.slots_of_flow(flow) < self.config["poll_slots"]:
+            refuse(23)
+        flow.rests = True
+        return {"kind": "noted"}
+
+    def wake(self, call):
+        self.unsolicited(call["sid"]).rests = False
+        return {"kind": "noted"}
+
+    def unsolicited(self, sid):
+        flow = self.live(sid)
+        return flow if flow.kind == "unsolicited" else refuse(22)
+
     def status(self, call):
         flow = self.live(call["sid"])
         return {"kind": "flow", "asked": flow.asked, "granted": flow.granted(), "outstanding": flow.outstanding()}
-
-    # Placements: the least phase, then the least offset, then in each frame the least starts.
-
-    def slots_of_flow(self, flow):
-        return self.config["poll_slots"] if flow.kind == "polled" else self.bursts.unsolicited(flow.spec["size"])
-
-    def taken_in(self, place):
-        """The minislots that live placements have in the frames at this place of the cycle."""
-        taken = set()
-        for flow in self.flows.values():
-            for start in flow.starts.get(place, ()):
-                taken.update(range(start, start + self.slots_of_flow(flow)))
-        return taken
-
-    def has_room_for_starts(self, flow, places):
-        """Whether these places of the cycle have no more starts than they may have, those of the flow among them."""
-        live = [sum(len(it.starts.get(place, ())) for it in self.flows.values()) for place in places]
-        return max(live) + flow.each() <= MOST_STARTS
-
-    def place(self, flow):
-        flow.interval = self.slots_of(flow.spec["interval_us"])[0] // self.frame
-        taken = [self.taken_in(place) for place in range(self.config["cycle"])]
-        for phase in range(flow.interval):
-            places = range(phase, self.config["cycle"], flow.interval)
-            if not self.has_room_for_starts(flow, places):
-                continue
-            for offset in range(self.config["req_slots"], self.frame):
-                found = {place: self.starts_in(flow, offset, taken[place]) for place in places}
-                if all(found.values()):
-                    flow.phase, flow.offset, flow.starts = phase, offset, found
-                    starts = [start for place in places for start in found[place]]
-                    return {"kind": "admitted", "reference": self.reference_of(flow), "starts": starts}
-        return None
-
-    def starts_in(self, flow, offset, taken):
-        """The least starts of the flow's grants in a frame of which so much is taken, or none where they do not fit."""
-        last, slots = offset + self.slots_of(flow.spec["jitter_us"])[0], self.slots_of_flow(flow)
-        starts, at = [], offset
-        while len(starts) < flow.each():
-            if at > last or at + slots > self.frame:
-                return []
-            if taken.isdisjoint(range(at, at + slots)):
-                starts.append(at)
-                at += slots
-            else:
-                at += 1
-        return starts
-
-    def reference_of(self, flow):
-        """The first nominal time that is not below the start of the next frame."""
-        frame = self.next // self.frame
-        while frame % flow.interval != flow.phase or frame * self.frame + flow.offset < self.next:
-            frame += 1
-        return frame * self.frame + flow.offset
 
     # The MAP of a frame.
 
@@ -321,10 +334,20 @@ class Scheduler:
         """What stands in a frame by its placement: offset, SID, usage, minislots, in order."""
         place, found = start // self.frame % self.config["cycle"], []
         for sid, flow in self.flows.items():
-            for at in flow.starts.get(place, ()):
-                usage = BROADCAST_IUC if flow.kind == "polled" else self.unsolicited_usage(flow.spec["size"])
-                found.append((at, sid, usage, self.slots_of_flow(flow)))
+            found += [(at, sid, *self.standing(flow)) for at in self.starts_of(flow, place)]
         return sorted(found)
+
+    def starts_of(self, flow, place):
+        """Where a flow has minislots in the frames at this place of the cycle. One that rests has the first of its
+        starts alone."""
+        starts = flow.starts.get(place, [])
+        return starts[:1] if flow.rests else starts
+
+    def standing(self, flow):
+        """The usage and the minislots of what a flow has at each: a poll, also while it rests, or a grant."""
+        if flow.kind == "polled" or flow.rests:
+            return REQUEST, self.config["poll_slots"]
+        return self.unsolicited_usage(flow.spec["size"]), self.slots_of_flow(flow)
 
     def usage(self, count):
         """The usage code of a data grant of so many bytes."""
@@ -338,10 +361,11 @@ class Scheduler:
         return 10 if self.config["phy"] == 1 else 6
 
     def keeps_ceiling(self, flow, start, count):
-        """Whether the flow's grants with this one behind them keep rate and burst over every window that ends in it."""
+        """Whether the flow's grants of its ceiling's present period, with this one behind them, keep rate and burst
+        over every window that ends in it."""
         rate, burst = flow.spec["rate"], flow.spec["burst"]
         total = 0
-        for first, part in reversed([*flow.grants, (start, count)]):
+        for first, part in reversed([*flow.grants[flow.before :], (start, count)]):
             total += part
             if rate and 1280000 * total > (start - first) * self.config["ticks"] * rate + 1280000 * burst:
                 return False
@@ -356,7 +380,7 @@ class Scheduler:
         for sid, flow in self.flows.items():
             if flow.kind != "unsolicited" and flow.outstanding() > 0:
                 if self.may_have(flow, start, min(flow.outstanding(), self.config["quantum"]), room):
-                    able.append((-flow.rank(), flow.grants[-1][0] if flow.grants else -1, sid))
+                    able.append((-flow.rank(), flow.last(), sid))
         return min(able)[2] if able else None
 
     def most(self, flow, start, room):
@@ -403,7 +427,7 @@ class Scheduler:
 
     def fill(self, start, periodic):
         """The elements of a frame up to the Null, each as (SID, usage, offset), and their bytes."""
-        elements, counts = [(ALL_MODEMS, BROADCAST_IUC, 0)], [0]
+        elements, counts = [(ALL_MODEMS, REQUEST, 0)], [0]
         waiting, at = self.waiting(), self.config["req_slots"]
         for stop, *placed in [*periodic, (self.frame,)]:
             while at < stop:
@@ -453,13 +477,35 @@ class Scheduler:
         return (head + times + windows + b"".join(words)).hex()
 
 
+class Auditor(Scheduler):
+    """Judges entries, each behind those before it: a flow that is placed may have any lawful placement."""
+
+    def judges(self, entry):
+        """Whether the reply of an entry is one that the scheduler may give."""
+        self.found = entry["reply"]
+        return self.call(entry["call"]) == self.found
+
+    def place(self, flow):
+        """The placement that the entry tells, where that is lawful, or else the scheduler's own."""
+        return self.adopt(flow, self.found) or super().place(flow)
+
+
+def verdict_of(config, entries):
+    """The line of the audit of a history."""
+    auditor = Auditor({**config, "calls": len(entries) + 1})
+    for place, entry in enumerate(entries):
+        if not auditor.judges(entry):
+            return f"illegal {place}\n"
+    return f"legal {len(entries)}\n"
+
+
 def line_of(reply):
     """The line of an answer, as a run writes it."""
     if reply is None:
         return "history full"
     kind = reply["kind"]
-    if kind == "admitted" and "starts" in reply:
-        return " ".join(["admitted", str(reply["reference"]), *map(str, reply["starts"])])
+    if "starts" in reply:
+        return " ".join([kind, str(reply["reference"]), *map(str, reply["starts"])])
     numbers = {"map": ["hex"], "skipped": ["next"], "flow": ["asked", "granted", "outstanding"]}
     numbers["refused"] = ["number", "value"]
     return " ".join([kind, *(str(reply[it]) for it in numbers.get(kind, []) if it in reply)])

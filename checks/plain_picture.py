@@ -13,6 +13,7 @@ MOST_STEPS, RIGHT, UP, ACROSS = 800, 10240, 3200, 6400
 # From the bottom up, as they are stacked; the picture draws the highest first.
 STACKED = ("request", "poll", "unsolicited", "opportunity", "data", "idle")
 SHOWN = ("least", "middle", "p99", "greatest")
+COUNTED = ("served", "waiting", "dropped", "replaced")
 NUMBER = r"(\d+(?:\.\d)?)"
 NO_FRAME, NO_DELAY = "No MAP was built, so there is no frame.", "No request was accepted, so there is no delay."
 
@@ -111,10 +112,10 @@ def span_of(config, first, behind):
 
 
 def rank_of(config, rank, tenths_of_scale):
-    """A row of delays: its name, how many requests were served, wait and were dropped, the places of its marks, and its
-    numbers."""
+    """A row of delays: its name, how many requests were served, wait, were dropped and, where that is told, were
+    replaced, the places of its marks, and its numbers."""
     name = "polled" if rank["rank"] == "polled" else f"priority {rank['rank']}"
-    counts, delay = tuple(rank[kind] for kind in ("served", "waiting", "dropped")), rank["delay"]
+    counts, delay = tuple(rank[kind] for kind in COUNTED if kind in rank), rank["delay"]
     if delay is None:
         return name, counts, None, []
     places = {kind: ACROSS * (delay[kind] * config["ticks"]) // max(16 * tenths_of_scale, 1) for kind in SHOWN}
@@ -185,10 +186,16 @@ def frame_in(title):
     return int(slots), time
 
 
-def rank_in(row):
-    name, *counts = [text.text for text in row.iter(f"{SVG}text")]
-    served, waiting, dropped, *numbers = counts
-    return name, tuple(map(int, (served, waiting, dropped))), marks_in(row) if numbers else None, numbers
+def rank_in(row, columns):
+    """A row of delays, in which each number stands below its column."""
+    name, *numbers = [(text.text, text.get("x")) for text in row.iter(f"{SVG}text")]
+    places = {at: number for number, at in numbers}
+    if len(places) != len(numbers) or not places.keys() <= columns.keys():
+        raise ValueError("a number is below no column")
+    by_name = {columns[at]: number for at, number in places.items()}
+    delays = [by_name[kind] for kind in ("least", "middle", "99 in 100", "greatest") if kind in by_name]
+    counts = tuple(int(by_name[kind]) for kind in COUNTED if kind in by_name)
+    return name[0], counts, marks_in(row) if delays else None, delays
 
 
 def read_picture(text):
@@ -205,6 +212,9 @@ def read_picture(text):
         raise ValueError("the picture is on no white ground")
     keys = [re.fullmatch(rf"({'|'.join(words)}) {NUMBER} %", found) for found in texts]
     rows = [group for group in picture.iter(f"{SVG}g") if group.get("transform", "").startswith("translate(0 ")]
+    # The names of the columns of numbers, by their places.
+    (chart,) = [group for group in picture.iter(f"{SVG}g") if group.get("transform") == "translate(96 560)"]
+    columns = {text.get("x"): text.text for text in chart.findall(f"{SVG}text") if text.get("class") == "end"}
     return {"width": int(next(re.match(r"Frames in a step: (\d+)\.", found)[1] for found in texts
                               if found.startswith("Frames in a step"))),
             "frames": int(re.search(r"Frames: (\d+),", title)[1]), "skips": int(re.search(r"Skips: (\d+)\.", title)[1]),
@@ -213,5 +223,5 @@ def read_picture(text):
             "parts": {words[key[1]]: tenths(key[2]) for key in keys if key},
             "areas": [area_in(path) for path in paths if "area" in path.get("class", "").split()],
             "steps": [step_in(path) for path in paths if path.get("class") == "step"],
-            "ranks": [rank_in(row) for row in rows],
+            "ranks": [rank_in(row, columns) for row in rows],
             "empty": [found for found in texts if found in (NO_FRAME, NO_DELAY)]}

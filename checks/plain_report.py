@@ -9,6 +9,8 @@ from plain_bursts import Bursts
 REQUEST, INITIAL, STATION, NULL = 1, 3, 4, 7
 ALL_MODEMS = 0x3FFF
 CALLS = ("admit", "ask", "build", "header", "heard", "remove", "reserve", "skip", "status")
+# Of these a report tells how many there were where there was one.
+MORE_CALLS = ("change", "replace", "rest", "wake")
 USES = ("data", "idle", "opportunity", "poll", "request", "unsolicited")
 
 
@@ -39,6 +41,11 @@ def begins(entry, sid):
 
 def ends(entry, sid):
     return accepted(entry, "remove", "removed") and entry["call"]["sid"] == sid
+
+
+def is_replacement(entry):
+    """Whether this is an accepted request that supersedes those before, of whichever flow."""
+    return accepted(entry, "replace", "taken")
 
 
 def use_of(kinds, sid, iuc):
@@ -81,11 +88,22 @@ def uses(entries):
     return count
 
 
+class Request:
+    """A request at this place of a life: its delay, or None where it was not served, and whether it was replaced. All
+    that the flow had asked with it has to be granted before the next request that supersedes it."""
+
+    def __init__(self, life, at):
+        wanted, later = life.asked_with(at), next((place for place in life.replacements if place > at), None)
+        ends = [end for place, end, reached in life.grants if reached >= wanted and (later is None or place < later)]
+        self.delay = ends[0] - life.since[at]["call"]["heard"] if ends else None
+        self.is_replaced = self.delay is None and later is not None
+
+
 class Life:
     """A life of a flow: the admission at this place, and the entries up to its end."""
 
     def __init__(self, config, entries, at):
-        self.config, self.sid, self.flow = config, entries[at]["call"]["sid"], entries[at]["call"]["flow"]
+        self.config, self.sid, self.first = config, entries[at]["call"]["sid"], entries[at]["call"]["flow"]
         self.ended = False
         self.since = []
         for entry in entries[at + 1:]:
@@ -93,40 +111,65 @@ class Life:
                 self.ended = True
                 break
             self.since.append(entry)
-        self.first = next_after(config, entries[:at])
-        self.last = next_after(config, entries[:at + 1 + len(self.since)])
-        # Its accepted requests, as (bytes, minislot at which it was heard).
-        self.asks = [(asked_by(config, entry["call"]), entry["call"]["heard"]) for entry in self.since
-                     if accepted(entry, "ask", "taken") and entry["call"]["sid"] == self.sid]
-        # What the MAPs of its life have of it, as (end, bytes, IUC), and the data grants of that.
-        self.allocations = [(entry["reply"]["start"] + offset + length, count, iuc)
-                            for entry in self.since if entry["reply"]["kind"] == "map"
+        self.from_slot = next_after(config, entries[:at])
+        self.to_slot = next_after(config, entries[:at + 1 + len(self.since)])
+        # What its MAPs have of it: the place of the entry, the end, the bytes and the IUC.
+        self.allocations = [(place, entry["reply"]["start"] + offset + length, count, iuc)
+                            for place, entry in enumerate(self.since) if entry["reply"]["kind"] == "map"
                             for sid, iuc, offset, length, count in allocations_of(entry["reply"]) if sid == self.sid]
-        self.grants = [(end, count) for end, count, _ in self.allocations if count > 0]
+        # The data grants of that, each with the bytes granted up to it and with it.
+        given = [(place, end, count) for place, end, count, _ in self.allocations if count > 0]
+        self.grants = [(place, end, reached)
+                       for (place, end, _), reached in zip(given, accumulate(count for _, _, count in given))]
+        # The places of the requests that supersede those before, and the bytes of the request at each place.
+        self.replacements = self.places("replace", "taken")
+        asking = {*self.places("ask", "taken"), *self.replacements}
+        self.asks = [asked_by(config, entry["call"]) if place in asking else 0
+                     for place, entry in enumerate(self.since)]
+        self.changes = self.places("change", "changed")
+        self.flow = self.flow_before(len(self.since))
+        self.requests = [Request(self, place) for place, count in enumerate(self.asks) if count > 0]
+
+    def places(self, call, kind):
+        return [place for place, entry in enumerate(self.since)
+                if accepted(entry, call, kind) and entry["call"]["sid"] == self.sid]
+
+    def flow_before(self, at):
+        """Its parameters before a place: those of its last change."""
+        changes = [place for place in self.changes if place < at]
+        return self.since[changes[-1]]["call"]["flow"] if changes else self.first
+
+    def granted_before(self, at):
+        return max((reached for place, _, reached in self.grants if place < at), default=0)
+
+    def asked_with(self, at):
+        """The bytes asked with the request at a place: those granted up to the last one that superseded others, and
+        those of it and of all behind it."""
+        last = max((place for place in self.replacements if place <= at), default=None)
+        asked = sum(self.asks[last or 0:at + 1])
+        return asked + (0 if last is None else self.granted_before(last))
 
     def asked(self):
-        return sum(count for count, _ in self.asks)
+        return self.asked_with(len(self.since) - 1)
 
     def granted(self):
-        if self.flow["kind"] == "unsolicited":
-            return self.flow["size"] * sum(1 for _, _, iuc in self.allocations if iuc not in (REQUEST, STATION))
-        return sum(count for _, count in self.grants)
+        """The bytes granted: of an unsolicited flow as many for each grant as its parameters said then."""
+        if self.flow["kind"] != "unsolicited":
+            return self.granted_before(len(self.since))
+        return sum(self.flow_before(place)["size"] for place, _, _, iuc in self.allocations
+                   if iuc not in (REQUEST, INITIAL, STATION))
 
     def delays(self):
-        """The delay of each request that was served: up to the end of the grant with which the bytes reach it."""
-        found, granted = [], list(accumulate(count for _, count in self.grants))
-        for wanted, (_, heard) in zip(accumulate(count for count, _ in self.asks), self.asks):
-            ends = [end for (end, _), reached in zip(self.grants, granted) if reached >= wanted]
-            found += [end - heard for end in ends[:1]]
-        return found
+        return [request.delay for request in self.requests if request.delay is not None]
 
     def told(self):
-        delays = self.delays()
-        left = len(self.asks) - len(delays)
-        told = {"asked": self.asked(), "asks": len(self.asks), "delay": summary(delays),
-                "dropped": left if self.ended else 0, "from": self.first, "granted": self.granted(),
-                "kind": self.flow["kind"], "outstanding": self.asked() - sum(count for _, count in self.grants),
-                "served": len(delays), "sid": self.sid, "to": self.last, "waiting": 0 if self.ended else left}
+        delays, replaced = self.delays(), sum(1 for request in self.requests if request.is_replaced)
+        left = len(self.requests) - len(delays) - replaced
+        told = {"asked": self.asked(), "asks": len(self.requests), "delay": summary(delays),
+                "dropped": left if self.ended else 0, "from": self.from_slot, "granted": self.granted(),
+                "kind": self.flow["kind"], "outstanding": self.asked() - self.granted_before(len(self.since)),
+                "replaced": replaced, "served": len(delays), "sid": self.sid, "to": self.to_slot,
+                "waiting": 0 if self.ended else left}
         if self.flow["kind"] == "best_effort":
             told["priority"] = self.flow["priority"]
         return told
@@ -158,10 +201,16 @@ def rank_of(life):
 def rank_told(rank, lives):
     own = [life for life in lives if rank_of(life) == rank]
     told = [life.told() for life in own]
-    return {"asks": sum(one["asks"] for one in told), "delay": summary([d for life in own for d in life.delays()]),
-            "dropped": sum(one["dropped"] for one in told), "granted": sum(one["granted"] for one in told),
-            "rank": "polled" if rank == 8 else rank, "served": sum(one["served"] for one in told),
-            "waiting": sum(one["waiting"] for one in told)}
+    sums = {name: sum(one[name] for one in told)
+            for name in ("asks", "dropped", "granted", "replaced", "served", "waiting")}
+    return {**sums, "delay": summary([d for life in own for d in life.delays()]),
+            "rank": "polled" if rank == 8 else rank}
+
+
+def calls_of(entries):
+    """How many calls there were of each kind, of some kinds where there was one."""
+    names = [entry["call"]["call"] for entry in entries]
+    return {name: names.count(name) for name in (*CALLS, *MORE_CALLS) if name in CALLS or name in names}
 
 
 def report(history):
@@ -170,11 +219,14 @@ def report(history):
     maps = [entry["reply"] for entry in entries if entry["reply"]["kind"] == "map"]
     numbers = [entry["reply"]["number"] for entry in entries if entry["reply"]["kind"] == "refused"]
     lives = lives_of(config, entries)
-    ranks = [rank for rank in range(8, -1, -1) if any(rank_of(life) == rank and life.asks for life in lives)]
-    return {"calls": {name: sum(1 for entry in entries if entry["call"]["call"] == name) for name in CALLS},
-            "frames": len(maps), "from": maps[0]["start"] if maps else None,
+    ranks = [rank for rank in range(8, -1, -1) if any(rank_of(life) == rank and life.requests for life in lives)]
+    told = {"calls": calls_of(entries), "frames": len(maps), "from": maps[0]["start"] if maps else None,
             "lives": [life.told() for life in lives],
             "priorities": [rank_told(rank, lives) for rank in ranks],
             "refused": {str(number): numbers.count(number) for number in set(numbers)},
             "skips": sum(1 for entry in entries if entry["reply"]["kind"] == "skipped"),
             "to": maps[-1]["start"] + config["frame"] if maps else None, "use": uses(entries)}
+    if not any(map(is_replacement, entries)):
+        for one in [*told["lives"], *told["priorities"]]:
+            del one["replaced"]
+    return told

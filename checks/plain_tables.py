@@ -4,16 +4,26 @@ fractions, and a number without room is tried in each unit."""
 from fractions import Fraction
 from math import floor
 
-from plain_report import lives_of
+from plain_report import is_replacement, lives_of
 
 UNITS = ("", "k", "M", "G", "T", "P", "E", "Z", "Y", "R", "Q")
 BESIDE = (("request", "admit"), ("poll", "remove"), ("unsolicited", "ask"), ("opportunity", "heard"), ("data", "build"),
           ("idle", "skip"))
 ALONE = ("reserve", "header", "status")
 SECOND, FEW, IN_A_LINE = 160000, 30, 5
-RANKS = "rank       bytes    asks  served  wait  drop   least  middle     p99    most ms\n"
-FLOWS = ("bits per second asked, granted and at most; delays in milliseconds\n"
-         " SID kind   asked/s  granted  ceiling   asks wait drop  middle     p99    most\n")
+# Calls that have a line where there was one.
+SELDOM = ("replace", "change", "rest", "wake")
+RATES = "bits per second asked, granted and at most; delays in milliseconds\n"
+# The headings of ranks and of lives, and the widths of their columns: without replaced requests, and with them.
+RANKS = ("rank       bytes    asks  served  wait  drop   least  middle     p99    most ms\n",
+         "rank       bytes   asks served wait drop repl   least  middle     p99    most ms\n")
+FLOWS = (" SID kind   asked/s  granted  ceiling   asks wait drop  middle     p99    most\n",
+         " SID kind   asked/s granted ceiling  asks wait drop repl  middle     p99    most\n")
+RANK_COUNTS = ((("granted", 9), ("asks", 7), ("served", 7), ("waiting", 5), ("dropped", 5)),
+               (("granted", 9), ("asks", 6), ("served", 6), ("waiting", 4), ("dropped", 4), ("replaced", 4)))
+LIFE_COUNTS = ((("asks", 6), ("waiting", 4), ("dropped", 4)),
+               (("asks", 5), ("waiting", 4), ("dropped", 4), ("replaced", 4)))
+RATE = (8, 7)
 
 
 def nearest(value):
@@ -47,6 +57,7 @@ class Tables:
     def __init__(self, history, told):
         self.ticks, self.told = history["config"]["ticks"], told
         self.lives = list(zip(lives_of(history["config"], history["entries"]), told["lives"]))
+        self.replaced = any(map(is_replacement, history["entries"]))
 
     def milliseconds(self, minislots, width):
         micros = nearest(Fraction(25 * self.ticks * minislots, 4))
@@ -58,7 +69,7 @@ class Tables:
 
     def rate(self, count, life):
         time = (life["to"] - life["from"]) * self.ticks
-        return number(8 * count * SECOND // time if time else None, 8)
+        return number(8 * count * SECOND // time if time else None, RATE[self.replaced])
 
     def head(self):
         told = self.told
@@ -72,7 +83,8 @@ class Tables:
         use, calls = self.told["use"], self.told["calls"]
         lines = [f"{name:11}{number(use[name], 14)}{percent(use[name], sum(use.values()))}        {call:7}"
                  f"{number(calls[call], 11)}\n" for name, call in BESIDE]
-        lines += [f"{'':42}{call:7}{number(calls[call], 11)}\n" for call in ALONE]
+        alone = [*ALONE, *(call for call in SELDOM if call in calls)]
+        lines += [f"{'':42}{call:7}{number(calls[call], 11)}\n" for call in alone]
         return "\nuse              minislots       %        calls\n" + "".join(lines)
 
     def refused(self):
@@ -82,15 +94,15 @@ class Tables:
 
     def rank(self, rank):
         name = rank["rank"] if rank["rank"] == "polled" else f"best {rank['rank']}"
-        counts = (("granted", 9), ("asks", 7), ("served", 7), ("waiting", 5), ("dropped", 5))
-        return (name + "".join(number(rank[key], width) for key, width in counts)
+        counts = "".join(number(rank[key], width) for key, width in RANK_COUNTS[self.replaced])
+        return (name + counts
                 + self.delays(rank["delay"], "least", "middle", "p99", "greatest") + "\n")
 
     def life(self, life, told):
         kind = {"unsolicited": "unsol", "polled": "polled"}.get(told["kind"], f"best {told.get('priority')}")
-        counts = (("asks", 6), ("waiting", 4), ("dropped", 4))
+        counts = "".join(number(told[key], width) for key, width in LIFE_COUNTS[self.replaced])
         return (f"{told['sid']:>4} {kind:6}{self.rate(told['asked'], told)}{self.rate(told['granted'], told)}"
-                + number(life.flow.get("rate") or None, 8) + "".join(number(told[key], width) for key, width in counts)
+                + number(life.flow.get("rate") or None, RATE[self.replaced]) + counts
                 + self.delays(told["delay"], "middle", "p99", "greatest") + "\n")
 
     def flows(self, is_all):
@@ -101,10 +113,10 @@ class Tables:
         order = "in the order of their admissions" if is_all else "those first that asked for the most bytes"
         few = "" if is_all or len(self.lives) <= FEW else (
             f"{FEW} of {len(self.lives)} lives of flows: those that asked for most bytes\n")
-        return (f"\nflows, {order}:\n{FLOWS}" + "".join(self.life(*it) for it in (self.lives if is_all else by_bytes))
-                + few)
+        lines = "".join(self.life(*it) for it in (self.lives if is_all else by_bytes))
+        return f"\nflows, {order}:\n{RATES}{FLOWS[self.replaced]}{lines}{few}"
 
     def text(self, is_all):
         ranks = "".join(self.rank(rank) for rank in self.told["priorities"])
-        return (self.head() + self.uses() + self.refused() + (f"\n{RANKS}{ranks}" if ranks else "")
+        return (self.head() + self.uses() + self.refused() + (f"\n{RANKS[self.replaced]}{ranks}" if ranks else "")
                 + self.flows(is_all))

@@ -312,7 +312,7 @@ class Sent:
         self.says("a short grant in a slower modulation than long ones", is_slower)
 
 
-def reached_in(histories, reading=Reached):
+def reached_in(histories, reading):
     """What histories have reached together, each with its configuration, and the laws that they break."""
     events, faults = set(), []
     for number, (config, entries) in enumerate(histories):

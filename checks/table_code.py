@@ -253,7 +253,8 @@ def of_forms():
             for pair in instead(it).items():
                 others |= {one: f"Missing::Unless{class_of(other)}" for one, other in (pair, pair[::-1])}
             missing = others.get(key) or lacking(member)
-            says = (member.get("bits"), member.get("range"), missing)
+            between = it.get("ranges", {}).get(key, member.get("range"))
+            says = (member.get("bits"), between, missing)
             yield f"{key} in the form of {name} in json_fields", of[key], says
 
 

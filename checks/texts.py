@@ -35,8 +35,8 @@ CONFIG, FORMS, BURSTS = table("base_configuration"), table("forms_of_calls"), ta
 PLAIN, SEVERAL = table("runs"), table("runs_with_several_grants")
 CROWDS = [table("runs_of_many_flows"), table("a_run_of_many_grants"), table("a_run_of_forty_grants")]
 RANGING, BURSTY = table("runs_with_opportunities"), table("runs_with_bursts")
-LIMITED = table("runs_with_many_flows")
-RUNS = [PLAIN, SEVERAL, RANGING, BURSTY, LIMITED, *CROWDS]
+LIMITED, CHANGED = table("runs_with_many_flows"), table("runs_with_changed_flows")
+RUNS = [PLAIN, SEVERAL, RANGING, BURSTY, LIMITED, CHANGED, *CROWDS]
 REPLIES, BUILD = table("a_history_with_each_reply"), table("a_history_of_one_build")
 CALLS = read("checks/rows/calls_of_each_name")
 
@@ -186,6 +186,12 @@ def voice(reference, starts, sid=5, grants=None):
     call = edited(VOICE, '"sid":5', f'"sid":{sid}')
     call = call if grants is None else edited(call, '"flow":{', f'"flow":{{"grants":{grants},')
     return f'{call}\n{{"kind":"admitted","reference":{reference},"starts":[{starts}]}}'
+
+
+def revoiced(reference, starts, size=200):
+    """A block: the voice flow is changed, where its size is another, and has this placement then."""
+    call = edited(edited(VOICE, "admit", "change"), '"size":200', f'"size":{size}')
+    return f'{call}\n{{"kind":"changed","reference":{reference},"starts":[{starts}]}}'
 
 
 def ended(command, given="", **how):

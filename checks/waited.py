@@ -23,6 +23,8 @@ FLOWS = {
     "it passes a request that is the first of its flow", "it is held back by a request that is served",
     "data grants as many as pending ones leave", "data grants as many as pending ones and opportunities leave",
     "240 elements with 64 pending ones", "240 elements with more pending ones",
+    "a request of a flow that is not shown is replaced", "a request of a flow that is not shown is replaced with none",
+    "it is held back by a request that replaced others",
 }
 
 
@@ -35,6 +37,11 @@ class Asking:
     def ask(self, count, heard):
         self.asked += count
         self.requests.append((heard, self.asked))
+
+    def replace(self, count, heard):
+        """A request in the place of those that wait, of which nobody is served any more."""
+        self.asked = self.granted + count
+        self.requests = [(heard, self.asked)] if count else []
 
     def waits(self):
         return self.asked > self.granted
@@ -55,7 +62,7 @@ class Waited:
         self.config, self.limits = config, {name: config.get(name, most) for name, most in LIMITS.items()}
         self.bursts, self.progress = Bursts(config), [config["start"]] * config["receivers"]
         self.lives, self.ack, self.held, self.shown, self.hidden = {}, 0, False, set(), set()
-        self.events, self.faults = set(), []
+        self.replaced, self.events, self.faults = set(), set(), []
 
     def says(self, event, where=True):
         if where:
@@ -85,10 +92,11 @@ class Waited:
         self.says("a flow is refused, for the only one that may lives", number == 4 and flows == 1)
         self.says("a flow is refused, for more than 64 live", number == 4 and flows > LIMITS["flows"])
         if number == 5:
-            own = Asking(call["flow"]).each()
-            self.breaks("a periodic flow is refused that may live", self.periodic() + own <= periodic)
+            own, live = Asking(call["flow"]).each(), self.periodic()
+            live -= self.lives[call["sid"]].each() if call["call"] == "change" else 0
+            self.breaks("a periodic flow is refused that may live", live + own <= periodic)
             self.says("a periodic flow is refused, for none may live", periodic == 0)
-            is_close = own > 1 and self.periodic() < periodic
+            is_close = own > 1 and live < periodic
             self.says("a periodic flow is refused, and would not be with one grant", is_close)
 
     # The calls that are accepted.
@@ -110,6 +118,19 @@ class Waited:
         count = self.bursts.capacity(call["slots"]) if "slots" in call else call["bytes"]
         self.lives[call["sid"]].ask(count, call["heard"])
         self.says("a flow that is not shown asks again", call["sid"] in self.hidden)
+
+    def replace(self, call, reply):
+        count = self.bursts.capacity(call["slots"]) if "slots" in call else call["bytes"]
+        life = self.lives[call["sid"]]
+        is_hidden = call["sid"] in self.hidden and life.waits()
+        self.says("a request of a flow that is not shown is replaced", is_hidden and count)
+        self.says("a request of a flow that is not shown is replaced with none", is_hidden and not count)
+        life.replace(count, call["heard"])
+        self.replaced |= {(call["sid"], call["heard"])}
+
+    def change(self, call, reply):
+        self.lives[call["sid"]].flow = call["flow"]
+        self.breaks("more grants in an interval than may be by a change", self.periodic() > self.limits["periodic"])
 
     def heard(self, call, reply):
         self.progress[call["receiver"]] = call["upto"]
@@ -160,6 +181,8 @@ class Waited:
         self.breaks("it is held back by no request of a flow that is not shown", ack != least and ack not in requests)
         unserved = {heard for sid in hidden for heard in self.lives[sid].unserved()}
         self.says("it is held back by a request that is served", ack != least and ack not in unserved)
+        self.says("it is held back by a request that replaced others",
+                  ack != least and any((sid, ack) in self.replaced for sid in hidden))
 
     def counts(self, found, shown):
         leave = TOGETHER - self.limits["pending"]

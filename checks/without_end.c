@@ -5,7 +5,8 @@
  * `forgetting`: the nanoseconds of forgetting a thousand calls by the clock, the middle and the 99th percentile, up to
  * 10 nanoseconds.
  *
- * `without_end [CALLS]`: a hundred million where no number is given.
+ * `without_end [CALLS [CHANGES]]`: a hundred million where no number is given; so many of a hundred, else none, change
+ * a flow, replace its requests, or let it rest or wake.
  */
 #include "drawn_calls.h"
 #include <string.h>
@@ -73,6 +74,7 @@ int main(int words, char **word) {
   struct mapsched_config brief = config;
   struct mapsched_scheduler scheduler;
   brief.calls = KEPT;
+  if (words > 2) changes_in_hundred = strtoull(word[2], NULL, 10);
   for (size_t i = 0; i < STEPS; i++) ((volatile unsigned *)forgotten)[i] = 0;
   open(&scheduler, &brief);
   make_all(&scheduler, calls);

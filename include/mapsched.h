@@ -120,7 +120,11 @@ enum mapsched_call_kind {
   MAPSCHED_SKIP = 5,
   MAPSCHED_STATUS = 6,
   MAPSCHED_RESERVE = 7, /* an opportunity to range: usage, slots, and of a station its sid */
-  MAPSCHED_HEADER = 8   /* of every MAP after it: ucd_count and the four exponents */
+  MAPSCHED_HEADER = 8,  /* of every MAP after it: ucd_count and the four exponents */
+  MAPSCHED_REPLACE = 9, /* a request that supersedes those before, with the members of an ask */
+  MAPSCHED_CHANGE = 10, /* of a live flow: other parameters of the same kind, with the members of an admission */
+  MAPSCHED_REST = 11,   /* of an unsolicited flow: polls in the place of its grants */
+  MAPSCHED_WAKE = 12    /* of an unsolicited flow: its grants again */
 };
 
 enum mapsched_flow_kind { MAPSCHED_UNSOLICITED = 0, MAPSCHED_POLLED = 1, MAPSCHED_BEST_EFFORT = 2 };
@@ -139,14 +143,14 @@ enum mapsched_usage { MAPSCHED_INITIAL = 0, MAPSCHED_STATION = 1 };
 struct mapsched_call {
   uint32_t kind; /* enum mapsched_call_kind */
   union {
-    uint32_t flow;  /* of an admission: enum mapsched_flow_kind */
+    uint32_t flow;  /* of an admission or a change: enum mapsched_flow_kind */
     uint32_t usage; /* of an opportunity: enum mapsched_usage */
   };
   union {
     uint32_t size;  /* of an unsolicited flow: the bytes of a grant */
     uint32_t slots; /* of an opportunity, or of a request with has_slots: minislots */
   };
-  uint32_t interval_us, jitter_us, rate, burst; /* of an admission: microseconds, bits per second, bytes */
+  uint32_t interval_us, jitter_us, rate, burst; /* of an admission or a change: microseconds, bits per second, bytes */
   uint32_t bytes;                               /* of a request without has_slots */
   uint64_t minislot;                            /* when it was heard, up to when all was, or now */
   uint16_t sid;
@@ -184,7 +188,8 @@ enum mapsched_reply_kind {
   MAPSCHED_SKIPPED = 6,  /* value is the start of the next frame */
   MAPSCHED_BYTES = 7,    /* asked, granted, outstanding */
   MAPSCHED_REFUSED = 8,  /* refusal is its number in docs/REFERENCE.md, value its value or 0 */
-  MAPSCHED_RESERVED = 9  /* the opportunity waits for a MAP */
+  MAPSCHED_RESERVED = 9, /* the opportunity waits for a MAP */
+  MAPSCHED_CHANGED = 10  /* as PLACED of a periodic flow; of a best effort flow without starts */
 };
 /* checks/tables: replies end */
 

@@ -41,7 +41,7 @@ static void workers(void) {
   struct mapsched_config config = lawful(), wrong = lawful();
   struct mapsched_worker first = {0}, second = {0}, third = {0};
   struct mapsched_scheduler scheduler = {0}, other = {0};
-  struct mapsched_call build = {.kind = MAPSCHED_BUILD, .minislot = 760}, unknown = {.kind = 9};
+  struct mapsched_call build = {.kind = MAPSCHED_BUILD, .minislot = 760}, unknown = {.kind = 13};
   struct mapsched_reply reply = {0};
   struct mapsched_entry entry;
   size_t count = 0;
@@ -346,16 +346,24 @@ static void opportunities(void) {
   WANT(mapsched_close(&scheduler) == MAPSCHED_OK);
 }
 
-/* Makes a request, and wants that it is taken or refused by this number, and that it stands so in the history. */
-static void asks(struct mapsched_scheduler *scheduler, struct mapsched_call ask, uint32_t refusal) {
+/* Makes a call, and wants that it is refused by this number, or where it is 0 answered so, and that it stands so in the
+ * history. Gives the reply. */
+static struct mapsched_reply makes(struct mapsched_scheduler *scheduler, struct mapsched_call call, uint32_t kind,
+                                   uint32_t refusal) {
   struct mapsched_stamp stamp = {0};
   struct mapsched_reply reply;
   struct mapsched_entry entry;
   size_t count = 0;
-  WANT(mapsched_call(scheduler, &stamp, &ask, &reply) == MAPSCHED_OK && reply.refusal == refusal);
-  WANT(reply.kind == (refusal ? MAPSCHED_REFUSED : MAPSCHED_TAKEN) && reply.value == 0);
+  WANT(mapsched_call(scheduler, &stamp, &call, &reply) == MAPSCHED_OK && reply.refusal == refusal);
+  WANT(reply.kind == (refusal ? MAPSCHED_REFUSED : kind));
   WANT(mapsched_count(scheduler, &count) == MAPSCHED_OK);
-  WANT(mapsched_entry(scheduler, count - 1, &entry) == MAPSCHED_OK && memcmp(&entry.call, &ask, NUMBERS) == 0);
+  WANT(mapsched_entry(scheduler, count - 1, &entry) == MAPSCHED_OK && memcmp(&entry.call, &call, NUMBERS) == 0);
+  return reply;
+}
+
+/* Makes a request, which is taken or refused by this number. */
+static void asks(struct mapsched_scheduler *scheduler, struct mapsched_call ask, uint32_t refusal) {
+  WANT(makes(scheduler, ask, MAPSCHED_TAKEN, refusal).value == 0);
 }
 
 /* Requests in minislots: those that carry no byte or too many are refused, and others add what they carry. */
@@ -395,6 +403,73 @@ static void minislots(void) {
   WANT(mapsched_call(&scheduler, &stamp, &ask, &reply) == MAPSCHED_OK && reply.kind == MAPSCHED_TAKEN);
   WANT(mapsched_call(&scheduler, &stamp, &status, &reply) == MAPSCHED_OK && reply.asked == 1048560 + 112 + 112 + 7);
   WANT(mapsched_lines(&scheduler, text, sizeof text, &length) == MAPSCHED_OK && strstr((char *)text, recorded));
+  WANT(mapsched_close(&scheduler) == MAPSCHED_OK);
+}
+
+/* Flows are changed, rest and wake, or are not of a kind that does; a request supersedes those before. */
+static void changes(void) {
+  struct mapsched_config config = lawful();
+  struct mapsched_scheduler scheduler = {0};
+  struct mapsched_stamp stamp = {0};
+  struct mapsched_call voice = {.kind = MAPSCHED_ADMIT,
+                                .flow = MAPSCHED_UNSOLICITED,
+                                .sid = 5,
+                                .size = 64,
+                                .interval_us = 20000,
+                                .grants = 1};
+  struct mapsched_call data = {.kind = MAPSCHED_ADMIT, .flow = MAPSCHED_BEST_EFFORT, .sid = 6};
+  struct mapsched_call rest = {.kind = MAPSCHED_REST}, wake = {.kind = MAPSCHED_WAKE}, other;
+  struct mapsched_call build = {.kind = MAPSCHED_BUILD, .minislot = 760}, status = {.kind = MAPSCHED_STATUS, .sid = 6};
+  struct mapsched_call ask = {.kind = MAPSCHED_ASK, .sid = 6, .bytes = 1000, .minislot = 801}, replace = ask;
+  struct mapsched_reply reply;
+  static const uint32_t by[] = {1, 7, 22};
+  config.calls = 100;
+  config.poll_slots = 4;
+
+  WANT(mapsched_open(&scheduler, &config) == MAPSCHED_OK);
+  makes(&scheduler, voice, MAPSCHED_PLACED, 0);
+  makes(&scheduler, data, MAPSCHED_ADMITTED, 0);
+  for (int i = 0; i < 3; i++) {
+    rest.sid = wake.sid = (uint16_t)(i == 0 ? 0 : 8 - i);
+    makes(&scheduler, rest, 0, by[i]);
+    makes(&scheduler, wake, 0, by[i]);
+  }
+  rest.sid = wake.sid = 5;
+  makes(&scheduler, wake, MAPSCHED_NOTED, 0);
+  makes(&scheduler, rest, MAPSCHED_NOTED, 0);
+
+  /* What places a flow is the same: so is its place. Another size is placed anew; its grant is shorter than a poll. */
+  voice.kind = data.kind = MAPSCHED_CHANGE;
+  for (int i = 0; i < 2; i++) {
+    voice.size = i == 0 ? 64 : 1;
+    reply = makes(&scheduler, voice, MAPSCHED_CHANGED, 0);
+    WANT(reply.value == 804 && reply.starts_count == 1 && reply.starts[0] == 4);
+  }
+  makes(&scheduler, rest, 0, 23);
+  voice.size = 0;
+  makes(&scheduler, voice, 0, 3);
+  reply = makes(&scheduler, data, MAPSCHED_CHANGED, 0);
+  WANT(reply.value == 0 && reply.starts_count == 0);
+  other = data;
+  other.sid = 5;
+  makes(&scheduler, other, 0, 21);
+  other.flow = 3;
+  WANT(mapsched_call(&scheduler, &stamp, &other, &reply) == MAPSCHED_BAD_CALL);
+
+  makes(&scheduler, build, MAPSCHED_BUILT, 0);
+  asks(&scheduler, ask, 0);
+  replace.kind = MAPSCHED_REPLACE;
+  replace.bytes = 200;
+  asks(&scheduler, replace, 0);
+  WANT(makes(&scheduler, status, MAPSCHED_BYTES, 0).outstanding == 200);
+  replace.bytes = 0;
+  asks(&scheduler, replace, 0);
+  replace.has_slots = 255;
+  replace.slots = 65538;
+  WANT(mapsched_call(&scheduler, &stamp, &replace, &reply) == MAPSCHED_OK && reply.refusal == 10);
+  WANT(makes(&scheduler, status, MAPSCHED_BYTES, 0).asked == 0);
+  replace.sid = 5;
+  WANT(mapsched_call(&scheduler, &stamp, &replace, &reply) == MAPSCHED_OK && reply.refusal == 8);
   WANT(mapsched_close(&scheduler) == MAPSCHED_OK);
 }
 
@@ -438,7 +513,7 @@ int main(void) {
                                 .interval_us = 20000,
                                 .jitter_us = 1000,
                                 .grants = 1};
-  struct mapsched_call unknown = {.kind = 9}, strange = {.kind = MAPSCHED_ADMIT, .flow = 3};
+  struct mapsched_call unknown = {.kind = 13}, strange = {.kind = MAPSCHED_ADMIT, .flow = 3};
   struct mapsched_call bytes = {.kind = MAPSCHED_STATUS, .sid = 9};
   struct mapsched_call build = {.kind = MAPSCHED_BUILD, .minislot = 760};
   struct mapsched_reply reply, before;
@@ -572,6 +647,7 @@ int main(void) {
   frames();
   opportunities();
   minislots();
+  changes();
   bursts();
   return failures != 0;
 }

@@ -14,8 +14,12 @@ CONFIG = {
 REQUEST_SLOTS = 3
 # So long after the end of a burst the receiver hands in what was in it.
 READING = 16
-# One request of so many is lost to noise.
-NOISE = 200
+# One request of so many is lost to noise, and so is one grant: its modem does not read the MAP.
+NOISE, MISSED = 200, 300
+# A telephone rests that has left so many grants empty, one behind the other.
+SILENT = 3
+# So long it takes until a subscriber has another tier.
+TIER_FOR = (SECOND, 3 * SECOND)
 # So long it goes well, and so late is the head end then.
 WELL_FOR, LATE_BY = (SECOND, 6 * SECOND), (3 * MILLISECOND, 9 * MILLISECOND)
 
@@ -26,6 +30,7 @@ VOICE = [
 VIDEO = {"kind": "polled", "interval_us": 20000, "jitter_us": 4000, "rate": 2000000, "burst": 20000}
 OFFICE = {"kind": "best_effort", "priority": 5, "rate": 2000000, "burst": 20000}
 HOME = {"kind": "best_effort", "priority": 2, "rate": 1000000, "burst": 10000}
+FASTER_HOME = {**HOME, "rate": 3000000, "burst": 20000}
 DISK = {"kind": "best_effort", "priority": 0, "rate": 0, "burst": 0}
 
 HABITS = [

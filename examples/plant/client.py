@@ -32,6 +32,13 @@ class Admitted(NamedTuple):
     starts: tuple = ()
 
 
+class Changed(NamedTuple):
+    """A change. A periodic flow has its first nominal minislot, and its starts in each nominal frame."""
+
+    reference: Optional[int] = None
+    starts: tuple = ()
+
+
 class Sums(NamedTuple):
     """The bytes of a flow."""
 
@@ -60,8 +67,9 @@ class Ended(Fault):
         self.status, self.said = status, said
 
 
-# The answers that tell nothing more than that the call was accepted.
+# The answers that tell nothing more than that the call was accepted, and those that may have a placement.
 NOTHING_TOLD = ("removed", "taken", "noted", "reserved")
+PLACED = {"admitted": Admitted, "changed": Changed}
 
 
 def answer_of(line):
@@ -76,8 +84,8 @@ def answer_of(line):
     if kind in ("out", "history"):
         raise NotRecorded(line)
     numbers = [int(word) for word in words]
-    if kind == "admitted":
-        return Admitted(numbers[0], tuple(numbers[1:])) if numbers else Admitted()
+    if kind in PLACED:
+        return PLACED[kind](numbers[0], tuple(numbers[1:])) if numbers else PLACED[kind]()
     return {"refused": Refused, "flow": Sums, "skipped": int}[kind](*numbers)
 
 
@@ -88,8 +96,8 @@ def answer_in(reply):
         return None
     if kind == "map":
         return bytes.fromhex(reply["hex"])
-    if kind == "admitted":
-        return Admitted(reply.get("reference"), tuple(reply.get("starts", ())))
+    if kind in PLACED:
+        return PLACED[kind](reply.get("reference"), tuple(reply.get("starts", ())))
     if kind == "refused":
         return Refused(reply["number"], reply.get("value"))
     return reply["next"] if kind == "skipped" else Sums(reply["asked"], reply["granted"], reply["outstanding"])
@@ -128,6 +136,10 @@ class Live:
         """`Admitted`, or `Refused`. The flow is a dict, as a script has it."""
         return self.call({"call": "admit", "sid": sid, "flow": flow})
 
+    def change(self, sid, flow):
+        """`Changed`, or `Refused`: a live flow gets other parameters of its kind. What it asked for stays."""
+        return self.call({"call": "change", "sid": sid, "flow": flow})
+
     def remove(self, sid):
         """None, or `Refused`."""
         return self.call({"call": "remove", "sid": sid})
@@ -139,6 +151,22 @@ class Live:
     def ask_minislots(self, receiver, sid, slots, heard):
         """The same of a modem that asks for minislots, as those before DOCSIS 3.0 do: for what so many carry."""
         return self.call({"call": "ask", "receiver": receiver, "sid": sid, "slots": slots, "heard": heard})
+
+    def replace(self, receiver, sid, count, heard):
+        """The same of a modem that asks anew: it waits for so many bytes in the place of all before, or for none."""
+        return self.call({"call": "replace", "receiver": receiver, "sid": sid, "bytes": count, "heard": heard})
+
+    def replace_minislots(self, receiver, sid, slots, heard):
+        """The same in minislots."""
+        return self.call({"call": "replace", "receiver": receiver, "sid": sid, "slots": slots, "heard": heard})
+
+    def rest(self, sid):
+        """None, or `Refused`: a flow of unsolicited grants is polled in their place."""
+        return self.call({"call": "rest", "sid": sid})
+
+    def wake(self, sid):
+        """None, or `Refused`: it has its grants again."""
+        return self.call({"call": "wake", "sid": sid})
 
     def heard(self, receiver, upto):
         """None, or `Refused`: a receiver has handed in all that it heard before this minislot."""

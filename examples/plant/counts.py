@@ -3,6 +3,8 @@
 from collections import Counter, deque
 
 CALLS = ("admit", "ask", "build", "header", "heard", "remove", "reserve", "skip", "status")
+# Of these it is told how many there were where there was one.
+MORE_CALLS = ("change", "replace", "rest", "wake")
 USES = ("request", "poll", "unsolicited", "opportunity", "data", "idle")
 PART = 1280000  # So many parts of a byte: a ceiling of 1 bit per second gives one in each tick.
 
@@ -31,10 +33,11 @@ class Life:
     def __init__(self, config, sid, flow, first):
         self.config, self.sid, self.flow = config, sid, flow
         self.first, self.last = first, None
-        self.asked = self.granted = self.asks = 0
+        self.asked = self.granted = self.asks = self.replaces = self.replaced = 0
         self.unserved, self.delays = deque(), []
         self.parts, self.parts_at = flow.get("burst", 0) * PART, first
         self.voice_at, self.late = None, 0
+        self.rests, self.silent = False, 0
 
     def outstanding(self):
         return self.sums()[2]
@@ -47,6 +50,30 @@ class Life:
     def ask(self, count, heard):
         self.asked, self.asks = self.asked + count, self.asks + 1
         self.unserved.append((self.asked, heard))
+
+    def replace(self, count, heard):
+        """A request in the place of those that are not served, which nobody serves any more."""
+        self.replaces, self.replaced = self.replaces + 1, self.replaced + len(self.unserved)
+        self.unserved.clear()
+        self.asked = self.granted
+        if count:
+            self.ask(count, heard)
+
+    def change(self, flow, now):
+        """Other parameters. A ceiling of which a number is another begins full."""
+        if any(flow.get(it) != self.flow.get(it) for it in ("rate", "burst")):
+            self.parts, self.parts_at = flow.get("burst", 0) * PART, now
+        self.flow = flow
+
+    def hears(self, speaks):
+        """What came in a voice grant, or that nothing came."""
+        self.silent = 0 if speaks else self.silent + 1
+
+    def rest(self):
+        self.rests, self.silent = True, 0
+
+    def wake(self):
+        self.rests, self.silent, self.voice_at = False, 0, None
 
     def voice(self, start):
         """A voice grant. It is late where it comes after more than an interval and its jitter."""
@@ -79,11 +106,13 @@ class Life:
         waiting = [] if self.last else [now - heard for _, heard in self.unserved]
         return len(self.delays) + len(waiting), sum(it >= least for it in (*self.delays, *waiting))
 
-    def told(self, now):
+    def told(self, now, has_replaced):
         told = {"asked": self.asked, "asks": self.asks, "delay": summary(self.delays), "dropped": len(self.unserved),
                 "from": self.first, "granted": self.granted, "kind": self.flow["kind"],
                 "outstanding": self.outstanding(), "served": len(self.delays), "sid": self.sid, "to": self.last,
                 "waiting": 0}
+        if has_replaced:
+            told["replaced"] = self.replaced
         if self.last is None:
             told.update(dropped=0, to=now, waiting=len(self.unserved))
         if self.flow["kind"] == "best_effort":
@@ -100,7 +129,7 @@ class Counts:
         self.frames = self.skips = 0
         self.first = self.last = None
         self.requests, self.blocked = Counter(), 0
-        self.grants = self.sent = self.room = 0
+        self.grants = self.sent = self.room = self.missed = 0
 
     def called(self, name, refusal):
         self.calls[name] += 1
@@ -120,10 +149,15 @@ class Counts:
         self.first = start if self.first is None else self.first
         self.last = start + self.config["frame"]
 
+    def has_replaced(self):
+        """Whether a request came in the place of those before: only then it is told what was replaced."""
+        return any(life.replaces for life in self.lives)
+
     def rank(self, rank):
         lives = [life for life in self.lives if rank_of(life.flow) == rank]
-        told = [life.told(None) for life in lives]
-        sums = {name: sum(one[name] for one in told) for name in ("asks", "dropped", "granted", "served", "waiting")}
+        told = [life.told(None, self.has_replaced()) for life in lives]
+        names = ["asks", "dropped", "granted", "served", "waiting", *(["replaced"] if self.has_replaced() else [])]
+        sums = {name: sum(one[name] for one in told) for name in names}
         delays = [delay for life in lives for delay in life.delays]
         return {**sums, "delay": summary(delays), "rank": "polled" if rank == 8 else rank}
 
@@ -142,8 +176,9 @@ class Counts:
 
     def report(self, now):
         asked = {rank_of(life.flow) for life in self.lives if life.asks}
-        return {"calls": {name: self.calls[name] for name in CALLS}, "frames": self.frames, "from": self.first,
-                "lives": [life.told(now) for life in self.lives],
+        calls = [*CALLS, *(name for name in MORE_CALLS if self.calls[name])]
+        return {"calls": {name: self.calls[name] for name in calls}, "frames": self.frames, "from": self.first,
+                "lives": [life.told(now, self.has_replaced()) for life in self.lives],
                 "priorities": [self.rank(rank) for rank in sorted(asked, reverse=True)],
                 "refused": {str(number): count for number, count in self.refused.items()}, "skips": self.skips,
                 "to": self.last, "use": {use: self.use[use] for use in USES}}

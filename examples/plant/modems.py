@@ -34,7 +34,7 @@ class Modem:
 
     def begin(self, now):
         """It has nothing to send, and has not asked."""
-        self.queued, self.asked_at = 0, None
+        self.queued, self.asked_at, self.missed = 0, None, False
 
     def pass_to(self, now):
         """It is switched on or off where it is time for that; a telephone begins or ends its call."""
@@ -54,9 +54,14 @@ class Modem:
     def sent(self, count, at):
         self.queued -= count
 
+    def misses(self):
+        """It has not read a MAP in which it has a grant, and asks anew for all that it has."""
+        self.missed, self.asked_at = True, None
+
     def wants(self):
-        """The bytes that it would ask for: one request at a time, and none while something is still to be granted."""
-        if self.asked_at is not None or self.life.outstanding():
+        """The bytes that it would ask for: one request at a time, and none while something is still to be granted, but
+        where it asks anew."""
+        if self.asked_at is not None or (self.life.outstanding() and not self.missed):
             return 0
         return UNIT * min(-(-self.queued // UNIT), MOST_UNITS)
 
@@ -77,9 +82,23 @@ class Modem:
 
 
 class Telephone(Modem):
-    """Calls of some seconds. It never asks: a voice packet goes in each unsolicited grant."""
+    """Calls of some seconds, in which it speaks and is silent by turns. A voice packet goes in each unsolicited grant
+    while it speaks. Where it is polled in their place it asks for them when it speaks again."""
 
     on_for, off_for = (3 * SECOND, 20 * SECOND), (2 * SECOND, 15 * SECOND)
+    speaks_for, is_silent_for = (SECOND // 2, 3 * SECOND), (SECOND // 4, 3 * SECOND)
+
+    def begin(self, now):
+        super().begin(now)
+        self.speaks, self.turns_at = True, now + self.draw(self.speaks_for)
+
+    def fill(self, at):
+        while self.turns_at <= at:
+            self.speaks = not self.speaks
+            self.turns_at += self.draw(self.speaks_for if self.speaks else self.is_silent_for)
+
+    def wants(self):
+        return UNIT if self.speaks and self.asked_at is None else 0
 
 
 class Camera(Modem):

@@ -32,6 +32,7 @@ def request_lines(plant, refused):
     count = plant.counts.requests
     given_up = sum(modem.given_up for modem in plant.modems.values())
     chances, alone, collisions = (count[name] for name in ("opportunities", "alone", "collisions"))
+    replaced = sum(life.replaced for life in plant.counts.lives)
     meanings = {number: REFUSALS.get(int(number), "docs/REFERENCE.md has it") for number in refused}
     told = [f"    {many:6} with {number}: {meanings[number]}" for number, many in refused.items()]
     return [
@@ -39,6 +40,7 @@ def request_lines(plant, refused):
         f"  in {collisions} a collision, in {chances - alone - collisions} nothing",
         f"  {count['collided']} requests collided, {count['noise']} were lost to noise, {given_up} packets were given up",
         f"  {count['poll']} requests in polls, {count['with data']} with data",
+        f"  {plant.counts.missed} grants were missed, and {replaced} requests replaced by those that asked anew",
         *(["  refusals by the scheduler:", *told] if told else []),
     ]
 
@@ -62,6 +64,7 @@ def flow_lines(counts):
     return [
         f"  {len(voice)} voice calls; {counts.grants} voice grants, {late} of them late;"
         f" {counts.blocked} flows blocked",
+        f"  {counts.calls['rest']} rests in silence, {counts.calls['wake']} wakes; {counts.calls['change']} tiers changed",
         f"  {asked} bytes of data asked for, {granted} granted",
         f"  {counts.sent} bytes sent in data grants that had room for {counts.room}",
     ]

@@ -15,8 +15,9 @@ import sys
 sys.dont_write_bytecode = True
 
 from again import Again  # noqa: E402
-from channel import CONFIG, LATE_BY, MOST, NOISE, READING, REQUEST_SLOTS, WELL_FOR, Crowd, modems_of  # noqa: E402
-from client import Ended, Fault, Live, Refused  # noqa: E402
+from channel import CONFIG, FASTER_HOME, HOME, LATE_BY, MISSED, MOST, NOISE, READING, REQUEST_SLOTS  # noqa: E402
+from channel import SILENT, TIER_FOR, WELL_FOR, Crowd, modems_of  # noqa: E402
+from client import Changed, Ended, Fault, Live, Refused  # noqa: E402
 from counts import Counts  # noqa: E402
 from maps import ALL_MODEMS, NOBODY, REQUEST, read_map  # noqa: E402
 from modems import SECOND  # noqa: E402
@@ -51,8 +52,16 @@ class Stopped(Exception):
 class Burst:
     """A request on its way: what the receiver has heard, and hands in when it has read it."""
 
-    def __init__(self, sid, count, begin, slots):
-        self.sid, self.count, self.begin, self.read_at = sid, count, begin, begin + slots + READING
+    def __init__(self, modem, count, begin, slots):
+        self.sid, self.count, self.begin, self.read_at = modem.sid, count, begin, begin + slots + READING
+        self.is_voice, self.replaces = modem.flow["kind"] == "unsolicited", modem.missed
+
+
+class Voice:
+    """A voice grant, in which something came or nothing."""
+
+    def __init__(self, modem, begin, slots):
+        self.life, self.speaks, self.read_at = modem.life, modem.speaks, begin + slots + READING
 
 
 class Plant:
@@ -61,10 +70,11 @@ class Plant:
     def __init__(self, live, config=CONFIG, seed=1, crowd=Crowd()):
         self.live, self.config, self.counts = live, config, Counts(config)
         self.next = self.progress = config["start"]
-        self.bursts = []
+        self.bursts, self.voices = [], []
         self.modems = {modem.sid: modem for modem in modems_of(seed, self.next, crowd)}
         self.chance = random.Random(f"{seed} head end")
         self.late_at = self.next + self.chance.randrange(*WELL_FOR)
+        self.tier_at = self.next + self.chance.randrange(*TIER_FOR)
 
     def call(self, name, *numbers):
         answer = getattr(self.live, name)(*numbers)
@@ -88,7 +98,9 @@ class Plant:
             now += self.chance.randrange(*LATE_BY)
             self.late_at = now + self.chance.randrange(*WELL_FOR)
         self.switch(now)
+        self.change_tier(now)
         self.hand_in(now)
+        self.let_rest(now)
         map_ = read_map(self.build(now), self.next)
         expect(map_.start == self.next, f"a MAP of {map_.start}, not of {self.next}")
         self.next += self.config["frame"]
@@ -121,13 +133,43 @@ class Plant:
                 self.counts.ends(sid, self.next)
                 modem.life = None
 
+    def change_tier(self, now):
+        """Now and then a home gets another tier, and has that too when it is switched on again."""
+        homes = [modem for modem in self.modems.values() if modem.life and modem.flow in (HOME, FASTER_HOME)]
+        if now >= self.tier_at and homes:
+            self.tier_at = now + self.chance.randrange(*TIER_FOR)
+            modem = self.chance.choice(homes)
+            modem.flow = HOME if modem.flow == FASTER_HOME else FASTER_HOME
+            expect(self.call("change", modem.sid, modem.flow) == Changed(), f"SID {modem.sid} has no other tier")
+            modem.life.change(modem.flow, self.next)
+
+    def let_rest(self, now):
+        """The receiver tells which voice grants were left empty: who has left some, one behind the other, rests."""
+        read = [voice for voice in self.voices if voice.read_at <= now]
+        self.voices = [voice for voice in self.voices if voice.read_at > now]
+        for voice in read:
+            voice.life.hears(voice.speaks)
+        for sid, life in self.counts.live.items():
+            if life.silent >= SILENT and not life.rests:
+                expect(self.call("rest", sid) is None, f"SID {sid} does not rest")
+                life.rest()
+
+    def take(self, burst):
+        """A request goes to the scheduler. That of a telephone wakes its flow."""
+        if burst.is_voice:
+            if self.call("wake", burst.sid) is None:
+                self.counts.live[burst.sid].wake()
+            return
+        name = "replace" if burst.replaces else "ask"
+        if self.call(name, 0, burst.sid, burst.count, burst.begin) is None:
+            getattr(self.counts.live[burst.sid], name)(burst.count, burst.begin)
+
     def hand_in(self, now):
         """The receiver hands in the requests that it has read, and tells its progress: up to the first unread one."""
         read = [burst for burst in self.bursts if burst.read_at <= now]
         self.bursts = [burst for burst in self.bursts if burst.read_at > now]
         for burst in sorted(read, key=lambda burst: burst.begin):
-            if self.call("ask", 0, burst.sid, burst.count, burst.begin) is None:
-                self.counts.live[burst.sid].ask(burst.count, burst.begin)
+            self.take(burst)
         upto = min([now, self.next, *(burst.begin for burst in self.bursts)])
         self.progress = max(self.progress, upto)
         self.call("heard", 0, self.progress)
@@ -157,6 +199,7 @@ class Plant:
             return "poll"
         if modem.flow["kind"] == "unsolicited":
             modem.life.voice(at)
+            self.voices.append(Voice(modem, at, element.slots))
             self.counts.grants += 1
             return "unsolicited"
         self.send(modem, at, element.slots)
@@ -187,15 +230,21 @@ class Plant:
             modem.asked_at = begin
             self.counts.requests[how] += 1
             if how == "with data" or self.chance.randrange(NOISE):
-                self.bursts.append(Burst(modem.sid, wanted, begin, slots))
+                self.bursts.append(Burst(modem, wanted, begin, slots))
+                modem.missed = False
             else:
                 self.counts.requests["noise"] += 1
 
     def send(self, modem, at, slots):
-        """A modem fills its grant, and where nothing is to come any more it asks with the data for what is left."""
+        """A modem fills its grant, and where nothing is to come any more it asks with the data for what is left. Now and
+        then it has not read the MAP, and sends nothing."""
         modem.life.grant(at, slots)
         room = (slots - self.config["overhead"]) * self.config["bytes_per_slot"]
         self.counts.room += room
+        if not self.chance.randrange(MISSED):
+            self.counts.missed += 1
+            modem.misses()
+            return
         self.counts.sent += min(modem.queued, room)
         modem.sent(min(modem.queued, room), at + slots)
         self.ask(modem, at, slots, "with data")

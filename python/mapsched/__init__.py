@@ -12,13 +12,13 @@ docs/PYTHON.md has a whole example. Units: minislots, bytes, microseconds, bits 
 """
 
 # checks/tables: imports begin
-from .calls import Admit, Ask, BestEffort, Build, Bursts, Call, Config, Flow, Header, Heard, Polled, Profile, Remove
-from .calls import Reserve, Skip, Status, Unsolicited, call_of
+from .calls import Admit, Ask, BestEffort, Build, Bursts, Call, Change, Config, Flow, Header, Heard, Polled, Profile
+from .calls import Remove, Replace, Reserve, Rest, Skip, Status, Unsolicited, Wake, call_of
 # checks/tables: imports end
 from .faults import BadConfig, BadMap, BadPayload, Closed, Fault, HandedOver, HistoryFull, NoHistory, OutOfMemory
 from .maps import Element, Map, decode, encode
-from .replies import Admitted, Built, FlowBytes, Noted, Placed, Refusal, Refused, Removed, Reply, Reserved, Skipped
-from .replies import Taken
+from .replies import Admitted, Built, Changed, FlowBytes, Noted, Placed, Refusal, Refused, Removed, Reply, Reserved
+from .replies import Skipped, Taken
 from .scheduler import Entry, Illegal, Legal, Scheduler, audit, check
 
 __version__ = "0.2.0"
@@ -26,9 +26,10 @@ __version__ = "0.2.0"
 # checks/tables: exports begin
 __all__ = [
     "Admit", "Admitted", "Ask", "BadConfig", "BadMap", "BadPayload", "BestEffort", "Build", "Built", "Bursts", "Call",
-    "Closed", "Config", "Element", "Entry", "Fault", "Flow", "FlowBytes", "HandedOver", "Header", "Heard",
-    "HistoryFull", "Illegal", "Legal", "Map", "NoHistory", "Noted", "OutOfMemory", "Placed", "Polled", "Profile",
-    "Refusal", "Refused", "Remove", "Removed", "Reply", "Reserve", "Reserved", "Scheduler", "Skip", "Skipped", "Status",
-    "Taken", "Unsolicited", "audit", "call_of", "check", "decode", "encode",
+    "Change", "Changed", "Closed", "Config", "Element", "Entry", "Fault", "Flow", "FlowBytes", "HandedOver", "Header",
+    "Heard", "HistoryFull", "Illegal", "Legal", "Map", "NoHistory", "Noted", "OutOfMemory", "Placed", "Polled",
+    "Profile", "Refusal", "Refused", "Remove", "Removed", "Replace", "Reply", "Reserve", "Reserved", "Rest",
+    "Scheduler", "Skip", "Skipped", "Status", "Taken", "Unsolicited", "Wake", "audit", "call_of", "check", "decode",
+    "encode",
 ]
 # checks/tables: exports end

@@ -237,14 +237,52 @@ class Header:
     data_end: int
 
 
-Call = Union[Admit, Remove, Ask, Heard, Build, Skip, Status, Reserve, Header]
+@dataclass(frozen=True)
+class Replace:
+    """A request, as in an ask, that supersedes those before: the flow waits for so much and no more, with 0 for
+    nothing. The reply is `Taken`."""
+
+    receiver: int
+    sid: int
+    bytes: Optional[int] = None
+    heard: int = _MUST
+    slots: Optional[int] = None
+
+    def __post_init__(self) -> None:
+        _one_of(self, "bytes", "slots")
+
+
+@dataclass(frozen=True)
+class Change:
+    """Gives a live flow other parameters of the same kind. What it asked for and what it was granted stay. The reply is
+    `Changed`."""
+
+    sid: int
+    flow: Flow
+
+
+@dataclass(frozen=True)
+class Rest:
+    """Lets an unsolicited flow rest: it is polled in the place of its grants. The reply is `Noted`."""
+
+    sid: int
+
+
+@dataclass(frozen=True)
+class Wake:
+    """Gives an unsolicited flow that rests its grants again. The reply is `Noted`."""
+
+    sid: int
+
+
+Call = Union[Admit, Remove, Ask, Heard, Build, Skip, Status, Reserve, Header, Replace, Change, Rest, Wake]
 # checks/tables: flows and calls end
 
 # checks/tables: names begin
 # By the numbers of the header, and by the names in a script.
 _CALLS = {
     "admit": Admit, "remove": Remove, "ask": Ask, "heard": Heard, "build": Build, "skip": Skip, "status": Status,
-    "reserve": Reserve, "header": Header,
+    "reserve": Reserve, "header": Header, "replace": Replace, "change": Change, "rest": Rest, "wake": Wake,
 }
 _FLOWS = {"unsolicited": Unsolicited, "polled": Polled, "best_effort": BestEffort}
 _USAGES = ["initial", "station"]
@@ -257,6 +295,8 @@ _PROFILES = {"short": "short_data", "long": "long_data", "unsolicited": "unsolic
 # A value of `flows` and `pending` that is a fault, where 0 is none in the struct.
 _NOT_LAWFUL = 2**32 - 1
 _CALL_TYPES, _FLOW_TYPES = list(_CALLS.values()), list(_FLOWS.values())
+# The calls that ask for bytes, or for what minislots carry.
+_REQUESTS = (Ask, Replace)
 
 
 def call_of(members: Mapping[str, Any]) -> Call:
@@ -286,7 +326,7 @@ def numbers_of(call: Call) -> CallNumbers:
         if call.usage not in _USAGES:
             raise ValueError(f"{call.usage!r} is no usage")
         values |= {"usage": _USAGES.index(call.usage), "sid": call.sid if call.usage == "station" else 0}
-    if isinstance(call, Ask):
+    if isinstance(call, _REQUESTS):
         values["has_slots"] = int(call.slots is not None)
         del values["slots" if call.slots is None else "bytes"]
     values = {"minislot" if name in _MINISLOTS else name: value for name, value in values.items()}
@@ -302,6 +342,6 @@ def from_numbers(numbers: CallNumbers) -> Call:
         values["flow"] = flow(*(getattr(numbers, it.name) for it in fields(flow)))
     if "usage" in values:
         values["usage"] = _USAGES[numbers.usage]
-    if kind is Ask:
+    if kind in _REQUESTS:
         del values["bytes" if numbers.has_slots else "slots"]
     return kind(**values)

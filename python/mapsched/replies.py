@@ -33,6 +33,9 @@ class Refusal(IntEnum):
     BAD_LENGTH = 18
     TOO_MANY_RESERVES = 19
     BAD_BACKOFF = 20
+    OTHER_KIND = 21
+    NOT_UNSOLICITED = 22
+    TOO_SHORT = 23
     # checks/tables: refusals end
 
 
@@ -61,6 +64,18 @@ class Placed:
 
 
 @dataclass(frozen=True)
+class Changed:
+    """A flow has other parameters: a periodic one its first nominal minislot and its starts, as in `Placed`."""
+
+    reference: Optional[int] = None
+    starts: tuple[int, ...] = ()
+
+    @property
+    def line(self) -> str:
+        return "changed" if self.reference is None else " ".join(map(str, ["changed", self.reference, *self.starts]))
+
+
+@dataclass(frozen=True)
 class Removed:
     """A flow is removed."""
 
@@ -76,7 +91,7 @@ class Taken:
 
 @dataclass(frozen=True)
 class Noted:
-    """A receiver's progress or a header is noted."""
+    """A receiver's progress, a header, or that a flow rests or wakes, is noted."""
 
     line = "noted"
 
@@ -137,7 +152,11 @@ class Reserved:
     line = "reserved"
 
 
-Reply = Union[Admitted, Placed, Removed, Taken, Noted, Built, Skipped, FlowBytes, Refused, Reserved]
+Reply = Union[Admitted, Placed, Changed, Removed, Taken, Noted, Built, Skipped, FlowBytes, Refused, Reserved]
+
+
+def _starts(numbers: ReplyNumbers) -> tuple[int, ...]:
+    return tuple(numbers.starts[: numbers.starts_count])
 
 
 def _refused(numbers: ReplyNumbers) -> Refused:
@@ -147,7 +166,7 @@ def _refused(numbers: ReplyNumbers) -> Refused:
 # By the numbers of the header.
 _KINDS = [
     lambda numbers: Admitted(),
-    lambda numbers: Placed(numbers.value, tuple(numbers.starts[: numbers.starts_count])),
+    lambda numbers: Placed(numbers.value, _starts(numbers)),
     lambda numbers: Removed(),
     lambda numbers: Taken(),
     lambda numbers: Noted(),
@@ -156,6 +175,7 @@ _KINDS = [
     lambda numbers: FlowBytes(numbers.asked, numbers.granted, numbers.outstanding),
     _refused,
     lambda numbers: Reserved(),
+    lambda numbers: Changed(numbers.value, _starts(numbers)) if numbers.starts_count else Changed(),
 ]
 
 

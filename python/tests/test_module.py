@@ -11,9 +11,9 @@ import unittest
 from shutil import which
 
 import mapsched
-from mapsched import Admit, Ask, BadConfig, BadMap, BestEffort, Build, Built, Bursts, Closed, Config, Element
-from mapsched import HandedOver, Header, HistoryFull, NoHistory, Noted, Profile, Refused, Reserve, Reserved, Scheduler
-from mapsched import Status, Taken
+from mapsched import Admit, Ask, BadConfig, BadMap, BestEffort, Build, Built, Bursts, Change, Changed, Closed, Config
+from mapsched import Element, FlowBytes, HandedOver, Header, HistoryFull, NoHistory, Noted, Placed, Polled, Profile
+from mapsched import Refusal, Refused, Replace, Reserve, Reserved, Rest, Scheduler, Status, Taken, Unsolicited, Wake
 from mapsched import library
 
 from . import tables
@@ -87,6 +87,19 @@ class BesideAPlainScheduler(unittest.TestCase):
                 met |= {it.reply.line for it in scheduler if isinstance(it.call, (Reserve, Header))}
         self.assertLessEqual({"reserved", "noted", "refused 1", "refused 18", "refused 19", "refused 20"}, met)
 
+    def test_drawn_changes_have_the_same_lines(self):
+        met = set()
+        for number in range(3000, 3040):
+            drawing = tables.drawing_of(number)
+            drawing.changing = ["replace"] * 6 + ["change"] * 10 + ["rest"] * 4 + ["wake"] * 2
+            calls, lines = drawing.play()
+            with Scheduler(Config(**drawing.config)) as scheduler:
+                self.assertEqual([*tables.lines_of(scheduler, calls)], lines, f"script {number}")
+                made = [mapsched.call_of(call) for call in calls[: len(scheduler)]]
+                self.assertEqual([it.call for it in scheduler], made, f"script {number}")
+                met |= {type(it.reply) for it in scheduler if isinstance(it.call, (Replace, Change, Rest, Wake))}
+        self.assertEqual(met, {Taken, Changed, Noted, Refused})
+
 
 class Module(unittest.TestCase):
     def test_a_closed_scheduler_takes_no_call(self):
@@ -125,6 +138,54 @@ class Module(unittest.TestCase):
             self.assertRaises(TypeError, Ask, 0, 17, heard=801, **told)
         for told in ({"bytes": 100}, {"slots": 9}):
             self.assertRaises(TypeError, Ask, 0, 17, **told)
+
+    def test_a_request_supersedes_those_before(self):
+        requests = [Replace(0, 17, 200, 841), Replace(0, 17, heard=841, slots=9), Replace(0, 17, 0, 841)]
+        with Scheduler(CONFIG) as scheduler:
+            for call in (Build(760), Admit(17, BestEffort(priority=3, rate=0, burst=0)), Ask(0, 17, 1000, 801)):
+                scheduler.call(call)
+            self.assertEqual(scheduler.call(Replace(0, 17, 1048561, 801)).line, "refused 10")
+            self.assertIsInstance(scheduler.call(Build(800)), Built)
+            for request, left in zip(requests, (200, 112, 0)):
+                self.assertEqual(scheduler.call(request), Taken())
+                self.assertEqual(scheduler.call(Status(17)), FlowBytes(544 + left, 544, left))
+            self.assertEqual([it.call for it in scheduler][5::2], requests)
+        for told in ({}, {"bytes": 100, "slots": 9}):
+            self.assertRaises(TypeError, Replace, 0, 17, heard=801, **told)
+
+    def test_a_telephone_rests_wakes_and_is_changed(self):
+        voice = Unsolicited(size=232, interval_us=1000, jitter_us=0, grants=1)
+        smaller = dataclasses.replace(voice, size=96)
+        starts = (4,) * CONFIG.cycle
+        steps = [
+            (Admit(5, voice), Placed(804, starts), ("long", 21)), (Rest(5), Noted(), ("request", 6)),
+            (Wake(5), Noted(), ("long", 21)), (Rest(5), Noted(), ("request", 6)),
+            (Change(5, smaller), Changed(964, starts), ("short", 12)), (Rest(5), Noted(), ("request", 6)),
+            (Change(5, smaller), Changed(1044, starts), ("short", 12)),
+        ]
+        with Scheduler(CONFIG) as scheduler:
+            for frame, (call, reply, (usage, end)) in enumerate(steps):
+                self.assertEqual(scheduler.call(call), reply)
+                found = mapsched.decode(scheduler.call(Build(760 + 40 * frame)).payload).elements
+                self.assertEqual([(it.usage, it.sid, it.offset) for it in found[1:2]], [(usage, 5, 4)])
+                self.assertEqual(found[2].offset, end)
+            self.assertEqual([it.call for it in scheduler][::2], [call for call, *_ in steps])
+            self.assertEqual([it.reply for it in scheduler][::2], [reply for _, reply, _ in steps])
+
+    def test_a_flow_that_is_not_changed_and_does_not_rest_is_refused_by_its_number(self):
+        data, polled = BestEffort(priority=3, rate=0, burst=0), Polled(interval_us=1000, jitter_us=0, rate=0, burst=0)
+        short = Unsolicited(size=1, interval_us=1000, jitter_us=0, grants=1)
+        with Scheduler(Config(**{**vars(CONFIG), "poll_slots": 4})) as scheduler:
+            for sid, flow in enumerate((data, polled, short), 6):
+                scheduler.call(Admit(sid, flow))
+            self.assertEqual(scheduler.call(Change(6, data)), Changed())
+            for call, refusal in [
+                (Change(6, polled), Refusal.OTHER_KIND), (Change(9, data), Refusal.NO_SUCH_FLOW),
+                (Change(8, dataclasses.replace(short, size=0)), Refusal.BAD_PARAMETERS),
+                (Rest(6), Refusal.NOT_UNSOLICITED), (Wake(7), Refusal.NOT_UNSOLICITED),
+                (Rest(8), Refusal.TOO_SHORT), (Wake(0), Refusal.NO_SUCH_SID),
+            ]:
+                self.assertEqual(scheduler.call(call).refusal, refusal)
 
     def test_as_many_flows_live_as_there_are_sids(self):
         flow = BestEffort(priority=3, rate=0, burst=0)

@@ -3,14 +3,16 @@ use Rattle.std.proofs.Common.{◌≡◌, ℕ, ◌-◌, ◌^◌, true, is_some, c
 use Rattle.serde_json.specs.Data.{Data, null, object, number, unsigned, string, Members, put, no_members}
 use Rattle.sched_calls.specs.declared.opportunity.Usage.TheVariants.{Initial, Station}
 use Rattle.sched_calls.specs.declared.amount.Amount.TheVariants.{Bytes, Slots}
-use Rattle.sched_calls.specs.declared.call.Call.TheVariants.{Ask, Reserve}
+use Rattle.sched_calls.specs.declared.spec.FlowSpec.TheVariants.{BestEffort}
+use Rattle.sched_calls.specs.declared.call.Call.TheVariants.{Ask, Reserve, Replace, Change, Rest, Wake}
 use Rattle.json_fields.specs.declared.forms.Sort.{Sort}
 use Rattle.json_fields.specs.declared.forms.TheConstants.{CALLS, FLOWS}
 use Rattle.json_fields.specs.Fields.{u8_or, u8_at, u16_at, u32_at, u64_at, number_at, text_at}
 use Rattle.json_fields.proofs.FormRows.{takes_forms, leaving_out}
 use Rattle.call_reading.specs.Calls.{unsolicited_of, polled_of, best_effort_of, flow_of}
 use Rattle.call_reading.specs.Calls.{admit_call, remove_call, amount_of, ask_call, heard_call, build_call, skip_call}
-use Rattle.call_reading.specs.Calls.{status_call, usage_of, reserve_call, header_call, call_of}
+use Rattle.call_reading.specs.Calls.{status_call, usage_of, reserve_call, header_call, replace_call, change_call}
+use Rattle.call_reading.specs.Calls.{rest_call, wake_call, call_of}
 
 flows : takes_forms (λ d. is_some (flow_of d)) (λ sort. null) FLOWS ≡ true
 unfolding flow_of unsolicited_of polled_of best_effort_of u8_or u8_at u32_at number_at text_at
@@ -34,10 +36,18 @@ asks_in_minislots :
 unfolding call_of amount_of ask_call u8_at u16_at u32_at u64_at number_at text_at
 asks_in_minislots = refl
 
--- a request with these members
-abbrev ask : Members → Data
-ask members = object (put (codes "call") (string (codes "ask")) (put (codes "receiver") (number (unsigned 1))
+-- a request of this name, with these members
+abbrev request : List ℕ → Members → Data
+request name members = object (put (codes "call") (string name) (put (codes "receiver") (number (unsigned 1))
     (put (codes "sid") (number (unsigned 17)) (put (codes "heard") (number (unsigned 801)) members))))
+
+-- one that adds to those before
+abbrev ask : Members → Data
+ask members = request (codes "ask") members
+
+-- one that supersedes them
+abbrev replace : Members → Data
+replace members = request (codes "replace") members
 
 -- a value under a key, and these members
 abbrev with_bytes : Data → Members → Members
@@ -74,9 +84,62 @@ a_request_for_another_value : call_of (ask (with_bytes null no_members)) ≡ Non
 unfolding call_of amount_of ask_call u8_at u16_at u32_at u64_at number_at text_at
 a_request_for_another_value = refl
 
-headers : takes_forms (λ d. is_some (call_of d)) flow (drop 8 CALLS) ≡ true
+headers : takes_forms (λ d. is_some (call_of d)) flow (take 1 (drop 8 CALLS)) ≡ true
 unfolding call_of header_call u8_at number_at text_at
 headers = refl
+
+-- a request that supersedes those before, with its bytes, a change, and a flow that rests and wakes
+later_calls : takes_forms (λ d. is_some (call_of d)) flow (leaving_out (codes "slots") (drop 9 CALLS)) ≡ true
+unfolding call_of replace_call change_call rest_call wake_call amount_of flow_of unsolicited_of polled_of best_effort_of
+    u8_or u8_at u16_at u32_at u64_at number_at text_at
+later_calls = refl
+
+-- a request that supersedes those before, with its minislots in their place
+replaces_in_minislots :
+    takes_forms (λ d. is_some (call_of d)) flow (leaving_out (codes "bytes") (take 1 (drop 9 CALLS))) ≡ true
+unfolding call_of amount_of replace_call u8_at u16_at u32_at u64_at number_at text_at
+replaces_in_minislots = refl
+
+nothing_left : call_of (replace (with_bytes (number (unsigned 0)) no_members)) ≡ Some (Replace 1 17 (Bytes 0) 801)
+unfolding call_of amount_of replace_call u8_at u16_at u32_at u64_at number_at text_at
+nothing_left = refl
+
+minislots_left : call_of (replace (with_slots most no_members)) ≡ Some (Replace 1 17 (Slots (2 ^ 32 - 1)) 801)
+unfolding call_of amount_of replace_call u8_at u16_at u32_at u64_at number_at text_at
+minislots_left = refl
+
+both_left : call_of (replace (with_bytes most (with_slots most no_members))) ≡ None
+unfolding call_of amount_of replace_call u8_at u16_at u32_at u64_at number_at text_at
+both_left = refl
+
+neither_left : call_of (replace no_members) ≡ None
+unfolding call_of amount_of replace_call u8_at u16_at u32_at u64_at number_at text_at
+neither_left = refl
+
+-- a call of this name with an SID, and these members behind
+abbrev of_flow : List ℕ → ℕ → Members → Data
+of_flow name n more = object (put (codes "call") (string name) (put (codes "sid") (number (unsigned n)) more))
+
+a_change : (sort : Sort) → call_of (of_flow (codes "change") 17 (put (codes "flow") (flow sort) no_members))
+    ≡ Some (Change 17 (BestEffort 7 0 0))
+unfolding call_of change_call flow_of best_effort_of u8_at u16_at u32_at number_at text_at
+a_change sort = refl
+
+a_change_without_a_flow : call_of (of_flow (codes "change") 17 no_members) ≡ None
+unfolding call_of change_call u16_at number_at text_at
+a_change_without_a_flow = refl
+
+a_rest : call_of (of_flow (codes "rest") (2 ^ 16 - 1) no_members) ≡ Some (Rest (2 ^ 16 - 1))
+unfolding call_of rest_call u16_at number_at text_at
+a_rest = refl
+
+a_rest_of_another_sid : call_of (of_flow (codes "rest") (2 ^ 16) no_members) ≡ None
+unfolding call_of rest_call u16_at number_at text_at
+a_rest_of_another_sid = refl
+
+a_wake : call_of (of_flow (codes "wake") 17 no_members) ≡ Some (Wake 17)
+unfolding call_of wake_call u16_at number_at text_at
+a_wake = refl
 
 -- a Reserve with this usage and length, and these members behind
 abbrev reserve : List ℕ → ℕ → Members → Data

@@ -8,15 +8,17 @@ use Rattle.serde_json.specs.Data.{Data, number, unsigned, string, object, Member
 use Rattle.serde_json.specs.Find.{get_member, as_str}
 use Rattle.sched_calls.specs.declared.spec.FlowSpec.{FlowSpec}
 use Rattle.sched_calls.specs.declared.call.Call.{Call}
-use Rattle.sched_calls.specs.declared.call.Call.TheVariants.{Admit, Header}
+use Rattle.sched_calls.specs.declared.call.Call.TheVariants.{Admit, Header, Change}
 use Rattle.json_fields.specs.Fields.{◌>>=◌, u8_at, u16_at, u32_at, u64_at, number_at, text_at, below}
 use Rattle.json_fields.proofs.PlainValues.{found_at}
 use Rattle.call_reading.specs.declared.found.Found.{Found}
 use Rattle.call_reading.specs.Calls.{flow_of, admit_call, remove_call, amount_of, ask_call, heard_call, build_call}
-use Rattle.call_reading.specs.Calls.{skip_call, status_call, usage_of, reserve_call, header_call, call_of}
+use Rattle.call_reading.specs.Calls.{skip_call, status_call, usage_of, reserve_call, header_call, replace_call}
+use Rattle.call_reading.specs.Calls.{change_call, rest_call, wake_call, call_of}
 use Rattle.call_reading.specs.Seen.{whole_in, byte_in, seen_in, seen_with, seen_of, seen_admit, seen_remove}
 use Rattle.call_reading.specs.Seen.{seen_amount, seen_ask, seen_heard, seen_build, seen_skip, seen_status, seen_usage}
-use Rattle.call_reading.specs.Seen.{seen_reserve, seen_header, seen_call}
+use Rattle.call_reading.specs.Seen.{seen_reserve, seen_header, seen_replace, seen_change, seen_rest, seen_wake}
+use Rattle.call_reading.specs.Seen.{seen_call}
 
 then_made : {B : Type 0} (b : Bool) (x : Data) (o : Option Data) (f : Data → Option B)
     → (cond b (Some x) o >>= f) ≡ (if b then f x else (o >>= f))
@@ -151,6 +153,12 @@ module _ (ms : Members) where
       (λ sid. after (get_member (codes "flow") ms) flow_of (λ flow. Some (Admit sid flow)) i)
       (u16_at (codes "sid") (object ms))
 
+  changes : seen_change (seen_in ms) ≡ change_call (object ms)
+  unfolding seen_change change_call u16_at number_at
+  changes = λ i. option_and_then
+      (λ sid. after (get_member (codes "flow") ms) flow_of (λ flow. Some (Change sid flow)) i)
+      (u16_at (codes "sid") (object ms))
+
   byte : (k : List ℕ) → u8_at k (object ms) ≡ (get_member k ms >>= byte_in)
   unfolding u8_at number_at
   byte k = after (get_member k ms) whole_in (below (2 ^ 8))
@@ -178,8 +186,9 @@ module _ (ms : Members) where
   -- the call that the members make is the one that the object stands for
   pub seen_call_is : Gives (seen_call (seen_in ms)) (call_of (object ms))
   unfolding seen_call seen_remove seen_amount seen_ask seen_heard seen_build seen_skip seen_status seen_usage
-      seen_reserve call_of remove_call amount_of ask_call heard_call build_call skip_call status_call usage_of
-      reserve_call u8_at u16_at u32_at u64_at number_at text_at
+      seen_reserve seen_replace seen_rest seen_wake call_of remove_call amount_of ask_call heard_call build_call
+      skip_call status_call usage_of reserve_call replace_call rest_call wake_call u8_at u16_at u32_at u64_at number_at
+      text_at
   seen_call_is = named (text_at (codes "call") (object ms))
       (λ name. where_else (bytes_eq name (codes "admit")) (λ call e. sym admits ∙ e)
       (where_else (bytes_eq name (codes "remove")) (as_it_is (remove_call (object ms)))
@@ -190,7 +199,11 @@ module _ (ms : Members) where
       (where_else (bytes_eq name (codes "status")) (as_it_is (status_call (object ms)))
       (where_else (bytes_eq name (codes "reserve")) (as_it_is (reserve_call (object ms)))
       (where_else (bytes_eq name (codes "header")) (λ call e. heads ∙ e)
-      (λ call e. absurd (true≢false (sym (ap (λ o. is_some o) e)))))))))))))
+      (where_else (bytes_eq name (codes "replace")) (as_it_is (replace_call (object ms)))
+      (where_else (bytes_eq name (codes "change")) (λ call e. sym changes ∙ e)
+      (where_else (bytes_eq name (codes "rest")) (as_it_is (rest_call (object ms)))
+      (where_else (bytes_eq name (codes "wake")) (as_it_is (wake_call (object ms)))
+      (λ call e. absurd (true≢false (sym (ap (λ o. is_some o) e)))))))))))))))))
 
   none_of : (o : Option Data) → false ≡ is_some o → o ≡ None
   none_of None e = refl

@@ -10,7 +10,7 @@ use Rattle.sched_calls.specs.declared.opportunity.Usage.{Usage}
 use Rattle.sched_calls.specs.declared.opportunity.Usage.TheVariants.{Initial, Station}
 use Rattle.sched_calls.specs.declared.call.Call.{Call}
 use Rattle.sched_calls.specs.declared.call.Call.TheVariants.{Admit, Remove, Ask, Heard, Build, Skip, Status}
-use Rattle.sched_calls.specs.declared.call.Call.TheVariants.{Reserve, Header}
+use Rattle.sched_calls.specs.declared.call.Call.TheVariants.{Reserve, Header, Replace, Change, Rest, Wake}
 use Rattle.json_fields.specs.Fields.{◌>>=◌, u8_at, u16_at, u32_at, u64_at, u8_or, text_at}
 
 -- a flow of unsolicited grants: one in an interval where their number is missing
@@ -135,6 +135,35 @@ header_call d = do
     data_end = data_end;
   }))
 
+-- a request that supersedes those before
+unfoldable pub replace_call : Data → Option Call
+replace_call d = do
+  receiver ← u8_at (codes "receiver") d
+  sid ← u16_at (codes "sid") d
+  amount ← amount_of d
+  heard ← u64_at (codes "heard") d
+  Some (Replace receiver sid amount heard)
+
+-- a change of a flow's parameters
+unfoldable pub change_call : Data → Option Call
+change_call d = do
+  sid ← u16_at (codes "sid") d
+  found ← get (codes "flow") d
+  flow ← flow_of found
+  Some (Change sid flow)
+
+-- a flow's rest
+unfoldable pub rest_call : Data → Option Call
+rest_call d = do
+  sid ← u16_at (codes "sid") d
+  Some (Rest sid)
+
+-- the end of a rest
+unfoldable pub wake_call : Data → Option Call
+wake_call d = do
+  sid ← u16_at (codes "sid") d
+  Some (Wake sid)
+
 -- the call that an object stands for, by its name
 unfoldable pub call_of : Data → Option Call
 call_of d = do
@@ -148,7 +177,11 @@ call_of d = do
       else (if bytes_eq name (codes "status") then status_call d
       else (if bytes_eq name (codes "reserve") then reserve_call d
       else (if bytes_eq name (codes "header") then header_call d
-      else None))))))))
+      else (if bytes_eq name (codes "replace") then replace_call d
+      else (if bytes_eq name (codes "change") then change_call d
+      else (if bytes_eq name (codes "rest") then rest_call d
+      else (if bytes_eq name (codes "wake") then wake_call d
+      else None))))))))))))
 
 -- the value stands for the call, and no configuration stands beside its members
 abbrev pub StandsAlone : Data → Call → Type 0

@@ -8,7 +8,7 @@ use Rattle.sched_calls.specs.declared.amount.Amount.TheVariants.{Bytes, Slots}
 use Rattle.sched_calls.specs.declared.spec.FlowSpec.{FlowSpec}
 use Rattle.sched_calls.specs.declared.call.Call.{Call}
 use Rattle.sched_calls.specs.declared.call.Call.TheVariants.{Admit, Remove, Ask, Heard, Build, Skip, Status}
-use Rattle.sched_calls.specs.declared.call.Call.TheVariants.{Reserve, Header}
+use Rattle.sched_calls.specs.declared.call.Call.TheVariants.{Reserve, Header, Replace, Change, Rest, Wake}
 use Rattle.sched_calls.specs.declared.opportunity.Usage.{Usage}
 use Rattle.sched_calls.specs.declared.opportunity.Usage.TheVariants.{Initial, Station}
 use Rattle.json_fields.specs.Fields.{◌>>=◌, below}
@@ -242,6 +242,34 @@ seen_header s = do
     data_end = data_end;
   }))
 
+-- a request that supersedes those before
+unfoldable pub seen_replace : Seen → Option Call
+seen_replace s = do
+  receiver ← s.receiver >>= below (2 ^ 8)
+  sid ← s.sid >>= below (2 ^ 16)
+  amount ← seen_amount s
+  heard ← s.heard >>= below (2 ^ 64)
+  Some (Replace receiver sid amount heard)
+
+-- a change of a flow's parameters
+unfoldable pub seen_change : Seen → Option Call
+seen_change s = do
+  sid ← s.sid >>= below (2 ^ 16)
+  flow ← s.flow
+  Some (Change sid flow)
+
+-- a flow's rest
+unfoldable pub seen_rest : Seen → Option Call
+seen_rest s = do
+  sid ← s.sid >>= below (2 ^ 16)
+  Some (Rest sid)
+
+-- the end of a rest
+unfoldable pub seen_wake : Seen → Option Call
+seen_wake s = do
+  sid ← s.sid >>= below (2 ^ 16)
+  Some (Wake sid)
+
 -- the call, by its name
 unfoldable pub seen_call : Seen → Option Call
 seen_call s = do
@@ -255,4 +283,8 @@ seen_call s = do
       else (if bytes_eq name (codes "status") then seen_status s
       else (if bytes_eq name (codes "reserve") then seen_reserve s
       else (if bytes_eq name (codes "header") then seen_header s
-      else None))))))))
+      else (if bytes_eq name (codes "replace") then seen_replace s
+      else (if bytes_eq name (codes "change") then seen_change s
+      else (if bytes_eq name (codes "rest") then seen_rest s
+      else (if bytes_eq name (codes "wake") then seen_wake s
+      else None))))))))))))

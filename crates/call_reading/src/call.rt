@@ -2,7 +2,8 @@
 
 ghost use Rattle.std.specs.Prelude.{◌≡◌};
 ghost use Rattle.call_reading.specs.Calls.{admit_call, remove_call, amount_of, ask_call, heard_call, build_call};
-ghost use Rattle.call_reading.specs.Calls.{skip_call, status_call, usage_of, reserve_call, header_call, call_of};
+ghost use Rattle.call_reading.specs.Calls.{skip_call, status_call, usage_of, reserve_call, header_call, replace_call};
+ghost use Rattle.call_reading.specs.Calls.{change_call, rest_call, wake_call, call_of};
 
 use super::flow::flow_of;
 use json_fields::{Tree, member, number_u8, number_u16, number_u32, number_u64, text};
@@ -131,6 +132,53 @@ fn header_call<T: Tree>(value: &T) -> Option<Call>
     }))
 }
 
+#[tactic(auto, unfolding(crate::specs::Calls::replace_call))]
+fn replace_call<T: Tree>(value: &T) -> Option<Call>
+    ensures { result ≡ replace_call (T.shown value.now) }
+{
+    let (Some(receiver), Some(sid), Some(amount), Some(heard)) = (
+        number_u8(value, "receiver"),
+        number_u16(value, "sid"),
+        amount_of(value),
+        number_u64(value, "heard"),
+    ) else {
+        return None;
+    };
+    Some(Call::Replace {
+        receiver,
+        sid,
+        amount,
+        heard,
+    })
+}
+
+#[tactic(auto, unfolding(crate::specs::Calls::change_call))]
+fn change_call<T: Tree>(value: &T) -> Option<Call>
+    ensures { result ≡ change_call (T.shown value.now) }
+{
+    let (Some(sid), Some(flow)) = (
+        number_u16(value, "sid"),
+        member(value, "flow").and_then(flow_of),
+    ) else {
+        return None;
+    };
+    Some(Call::Change(sid, flow))
+}
+
+#[tactic(auto, unfolding(crate::specs::Calls::rest_call))]
+fn rest_call<T: Tree>(value: &T) -> Option<Call>
+    ensures { result ≡ rest_call (T.shown value.now) }
+{
+    Some(Call::Rest(number_u16(value, "sid")?))
+}
+
+#[tactic(auto, unfolding(crate::specs::Calls::wake_call))]
+fn wake_call<T: Tree>(value: &T) -> Option<Call>
+    ensures { result ≡ wake_call (T.shown value.now) }
+{
+    Some(Call::Wake(number_u16(value, "sid")?))
+}
+
 /// The call that an object stands for, by its name.
 #[tactic(auto, unfolding(crate::specs::Calls::call_of))]
 pub fn call_of<T: Tree>(value: &T) -> Option<Call>
@@ -146,6 +194,10 @@ pub fn call_of<T: Tree>(value: &T) -> Option<Call>
         "status" => status_call(value),
         "reserve" => reserve_call(value),
         "header" => header_call(value),
+        "replace" => replace_call(value),
+        "change" => change_call(value),
+        "rest" => rest_call(value),
+        "wake" => wake_call(value),
         _ => None,
     }
 }

@@ -4,7 +4,7 @@ ghost use Rattle.std.specs.Prelude.{◌≡◌, ◌^◌, option_and_then};
 ghost use Rattle.json_fields.specs.Fields.{below};
 ghost use Rattle.call_reading.specs.Seen.{nothing, seen_of, seen_admit, seen_remove, seen_amount, seen_ask, seen_heard};
 ghost use Rattle.call_reading.specs.Seen.{seen_build, seen_skip, seen_status, seen_usage, seen_reserve, seen_header};
-ghost use Rattle.call_reading.specs.Seen.{seen_call, ranging_in};
+ghost use Rattle.call_reading.specs.Seen.{seen_replace, seen_change, seen_rest, seen_wake, seen_call, ranging_in};
 
 use sched_calls::{Amount, Call, FlowSpec, Header, Usage};
 
@@ -242,6 +242,44 @@ fn header(found: &Found<'_>) -> Option<Call>
     }))
 }
 
+#[tactic(auto, unfolding(crate::specs::Seen::seen_replace))]
+fn replace(found: &Found<'_>) -> Option<Call>
+    ensures { result ≡ seen_replace (seen_of found.now) }
+{
+    let (receiver, sid) = (to_u8(found.receiver)?, to_u16(found.sid)?);
+    let (amount, heard) = (amount(found)?, to_u64(found.heard)?);
+    Some(Call::Replace {
+        receiver,
+        sid,
+        amount,
+        heard,
+    })
+}
+
+#[tactic(auto, unfolding(crate::specs::Seen::seen_change))]
+fn change(found: &Found<'_>) -> Option<Call>
+    ensures { result ≡ seen_change (seen_of found.now) }
+{
+    let (Some(sid), Some(flow)) = (to_u16(found.sid), found.flow) else {
+        return None;
+    };
+    Some(Call::Change(sid, flow))
+}
+
+#[tactic(auto, unfolding(crate::specs::Seen::seen_rest))]
+fn rest(found: &Found<'_>) -> Option<Call>
+    ensures { result ≡ seen_rest (seen_of found.now) }
+{
+    Some(Call::Rest(to_u16(found.sid)?))
+}
+
+#[tactic(auto, unfolding(crate::specs::Seen::seen_wake))]
+fn wake(found: &Found<'_>) -> Option<Call>
+    ensures { result ≡ seen_wake (seen_of found.now) }
+{
+    Some(Call::Wake(to_u16(found.sid)?))
+}
+
 /// The call that the members make, by its name.
 #[tactic(auto, unfolding(crate::specs::Seen::seen_call))]
 pub(crate) fn made(found: &Found<'_>) -> Option<Call>
@@ -257,6 +295,10 @@ pub(crate) fn made(found: &Found<'_>) -> Option<Call>
         "status" => status(found),
         "reserve" => reserve(found),
         "header" => header(found),
+        "replace" => replace(found),
+        "change" => change(found),
+        "rest" => rest(found),
+        "wake" => wake(found),
         _ => None,
     }
 }

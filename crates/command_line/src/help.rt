@@ -23,11 +23,11 @@ pub const RUN: &str =
     r#"Reads from standard input or FILE, in JSON: {"config": {..}, "calls": [..]}.
 docs/REFERENCE.md has the fields of the configuration and of each call.
 
-Prints a line for each call, in order: `admitted` (and the places of a periodic
-flow), `removed`, `taken`, `noted`, `map` and the payload in hexadecimal,
-`skipped` and the start of the next frame, `flow` and the bytes asked, granted
-and outstanding; `refused`, a number and a value; or `history full` or `out of
-memory`, where the call was not recorded. With --explain the meaning of a refusal
+Prints a line for each call, in order: `admitted` or `changed` (and the places of a
+periodic flow), `removed`, `taken`, `noted`, `reserved`, `map` and the payload in
+hexadecimal, `skipped` and the start of the next frame, `flow` and the bytes asked,
+granted and outstanding; `refused`, a number and a value; or `history full` or `out
+of memory`, where the call was not recorded. With --explain the meaning of a refusal
 follows it:
   refused 12 800  # too far: the next frame starts at 800, and what is heard lies
   before it

@@ -24,6 +24,10 @@ pub line_of_an_admission : asked_of (codes "admitted 840 4") ≡ None
 unfolding is_other_answer
 line_of_an_admission = refl
 
+pub line_of_a_change : asked_of (codes "changed 844 4") ≡ None
+unfolding is_other_answer
+line_of_a_change = refl
+
 -- an answer of two words
 pub line_of_a_full_history : asked_of (codes "history full") ≡ None
 unfolding is_other_answer

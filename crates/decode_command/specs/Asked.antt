@@ -24,9 +24,9 @@ begins_with text words = starts_with nat_eq text words && ends_word (drop (lengt
 -- whether a text is a line that `run` or `live` prints for anything but a MAP
 unfoldable pub is_other_answer : List ℕ → Bool
 is_other_answer text =
-    begins_with text (codes "admitted") || begins_with text (codes "removed") || begins_with text (codes "taken")
-    || begins_with text (codes "noted") || begins_with text (codes "reserved") || begins_with text (codes "skipped")
-    || begins_with text (codes "flow") || begins_with text (codes "refused")
+    begins_with text (codes "admitted") || begins_with text (codes "changed") || begins_with text (codes "removed")
+    || begins_with text (codes "taken") || begins_with text (codes "noted") || begins_with text (codes "reserved")
+    || begins_with text (codes "skipped") || begins_with text (codes "flow") || begins_with text (codes "refused")
     || begins_with text (codes "history full") || begins_with text (codes "out of memory")
     || begins_with text (codes "bad line")
 

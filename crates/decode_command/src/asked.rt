@@ -31,6 +31,7 @@ fn is_other_answer(text: &[u8]) -> bool
     ensures { result ≡ is_other_answer text.now }
 {
     begins_with(text, b"admitted")
+        || begins_with(text, b"changed")
         || begins_with(text, b"removed")
         || begins_with(text, b"taken")
         || begins_with(text, b"noted")

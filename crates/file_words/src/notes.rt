@@ -27,6 +27,8 @@ pub struct Notes {
     pub unread: Lines,
     /// How many calls there are of each name.
     pub calls: Counts,
+    /// Whether the call that was counted last is an admission.
+    pub admits: bool,
     /// How many admissions there are of each kind of flow.
     pub flows: Counts,
     /// How many replies there are of each kind.
@@ -44,6 +46,7 @@ impl Notes {
             repeated: Lines::new(alloc),
             unread: Lines::new(alloc),
             calls: Counts::new(Sort::Call),
+            admits: false,
             flows: Counts::new(Sort::Flow),
             replies: Counts::new(Sort::Reply),
         }

@@ -11,13 +11,19 @@ use std::alloc::AllocError;
 use std::fmt::Write;
 
 impl Notes {
-    // One more object of a form.
+    // One more call.
+    fn count_call(&mut self, name: &str) {
+        self.admits = name == "admit";
+        self.calls.add(name);
+    }
+
+    // One more object of a form. The parameters of a change are no flow more.
     fn count(&mut self, sort: Sort, name: &str) {
         match sort {
-            Sort::Call => self.calls.add(name),
-            Sort::Flow => self.flows.add(name),
+            Sort::Call => self.count_call(name),
+            Sort::Flow if self.admits => self.flows.add(name),
             Sort::Reply => self.replies.add(name),
-            Sort::Document(_) | Sort::Config | Sort::Bursts | Sort::Profile | Sort::Entry => {}
+            _ => {}
         }
     }
 

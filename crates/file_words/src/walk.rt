@@ -16,7 +16,7 @@ fn is_refusal(number: u64, value: Option<u64>) -> bool {
     match (number, value) {
         (3, Some(reason)) => 1 <= reason && reason <= 7,
         (11 | 12 | 13 | 15 | 16 | 17, value) => value.is_some(),
-        (1..=20, None) => number != 3,
+        (1..=23, None) => number != 3,
         _ => false,
     }
 }
@@ -92,8 +92,8 @@ impl Notes {
     ) -> Result<(), AllocError> {
         match (sort, name) {
             (Sort::Reply, "refused") => self.tell_refusal(place, parts),
-            (Sort::Reply, "admitted") => self.tell_placement(place, parts),
-            (Sort::Call, "ask") => self.tell_amount(place, parts),
+            (Sort::Reply, "admitted" | "changed") => self.tell_placement(place, parts),
+            (Sort::Call, "ask" | "replace") => self.tell_amount(place, parts),
             (Sort::Call, "reserve") => self.tell_usage(place, parts),
             _ => Ok(()),
         }

@@ -9,10 +9,11 @@ use Rattle.minislots.specs.Units.{slots_for, bytes_in}
 use Rattle.minislots.proofs.Bounds.{bounds_of}
 use Rattle.minislots.proofs.UnitLaws.{fits_bytes, fits_slots}
 use Rattle.sched_calls.specs.FlowSpec.{takes_requests, rate_of, burst_of}
-use Rattle.flow_book.specs.Flows.{LiveFlow, outstanding}
+use Rattle.flow_book.specs.Flows.{LiveFlow, outstanding, in_period}
 use Rattle.flow_book.specs.Choice.{KeepsWith, MayGrant, IsAmount, IsMost, IsEligible}
 use Rattle.flow_book.specs.Bucket.{BucketView, HaveStartedBy, StandsFor, most_of}
 use Rattle.flow_book.proofs.Buckets.{most-within, most-kept, most-greatest}
+use Rattle.flow_book.proofs.Started.{started-drop}
 
 module _ (c : Config) (f : LiveFlow) (start room limit most : ℕ) where
   -- of the bytes up to the limit the flow may have these under its ceiling, and no more
@@ -67,21 +68,23 @@ module _ (c : Config) (f : LiveFlow) (start room limit most : ℕ) where
 
 -- of the bytes up to a limit the flow may have what its bucket has
 pub bucket-within : (c : Config) (f : LiveFlow) (b : BucketView) (start room limit most : ℕ)
-    → StandsFor c (rate_of f.spec) (burst_of f.spec) b f.grants → HaveStartedBy start f.grants
+    → StandsFor c (rate_of f.spec) (burst_of f.spec) b (in_period f) → HaveStartedBy start f.grants
     → most ≡ most_of b start limit → IsWithin c f start room limit most
 bucket-within c f b start room limit most stands started is =
     let rate = rate_of f.spec in
     let burst = burst_of f.spec in
+    let grants = in_period f in
+    let began = started-drop start f.earlier f.grants started in
     rw is (record {
-      within = most-within c rate burst b f.grants stands start 0 started limit;
-      keeps = λ n some le. most-kept c rate burst b f.grants stands start n started limit le;
-      greatest = λ n some le kept. most-greatest c rate burst b f.grants stands start n started limit le kept;
+      within = most-within c rate burst b grants stands start 0 began limit;
+      keeps = λ n some le. most-kept c rate burst b grants stands start n began limit le;
+      greatest = λ n some le kept. most-greatest c rate burst b grants stands start n began limit le kept;
     })
 
 -- so with the limit of what is outstanding, capped and fits, what the bucket has are the most
 pub most-in-bucket : (c : Config) (f : LiveFlow) (b : BucketView) (start room limit most : ℕ) → IsLawful c
     → limit ≡ min (min (outstanding f) c.grant_cap) (bytes_in c room)
-    → StandsFor c (rate_of f.spec) (burst_of f.spec) b f.grants → HaveStartedBy start f.grants
+    → StandsFor c (rate_of f.spec) (burst_of f.spec) b (in_period f) → HaveStartedBy start f.grants
     → most ≡ most_of b start limit → IsMost c f start room most
 most-in-bucket c f b start room limit most lawful limits stands started is =
     most-is c f start room limit most (bounds_of c lawful).bursts limits

@@ -1,6 +1,6 @@
 -- One flow of a list is changed.
 use Rattle.std.proofs.Common.{◌≡◌, refl, sym, ap, ◌∙◌, ℕ, zero, suc, ◌<◌, ◌==◌, List, [], ◌∷◌, map, length, get_or}
-use Rattle.std.proofs.Common.{set, if◌then◌else◌, arith}
+use Rattle.std.proofs.Common.{◌≤◌, set, if◌then◌else◌, arith}
 use Rattle.std.specs.List.{AllByRecursion}
 use Rattle.std.proofs.lemmas.Bool.Decides.{nat_tests}
 use Rattle.std.proofs.lemmas.List.{map-set, length-map}
@@ -13,7 +13,8 @@ use Rattle.flow_book.specs.Flows.{LiveFlow, with_grant}
 use Rattle.flow_book.specs.Choice.{MayGrant}
 use Rattle.flow_book.proofs.Windows.{bytes-one}
 use Rattle.flow_book.specs.Entry.{live, IsSoundFlow, IsSoundBook}
-use Rattle.flow_book.specs.Book.{Ascend, Room, BookView, changed, with_asked}
+use Rattle.flow_book.specs.Book.{Ascend, Room, BookView, changed, with_asked, with_replaced}
+use Rattle.flow_book.proofs.Periods.{period-more}
 use Rattle.flow_book.proofs.Places.{StandsAt, all-found}
 
 -- what holds of each, and of the one that is put in, holds of each then
@@ -106,6 +107,11 @@ pub asked-sound : (c : Config) (bytes heard : ℕ) (f : LiveFlow) → IsSoundFlo
     → IsSoundFlow c (with_asked bytes heard f)
 asked-sound c bytes heard f is = record { within = omega (arith, is.within); kept = is.kept }
 
+-- so does to ask for other bytes in the place of those outstanding
+pub replaced-sound : (c : Config) (bytes heard : ℕ) (f : LiveFlow) → IsSoundFlow c f
+    → IsSoundFlow c (with_replaced bytes heard f)
+replaced-sound c bytes heard f is = record { within = omega arith; kept = is.kept }
+
 -- a book of these flows and rooms
 abbrev pub view-of : Config → List LiveFlow → List Room → BookView
 view-of c flows rooms = record { config = c; flows = flows; rooms = rooms }
@@ -116,8 +122,11 @@ pub same-view : (c : Config) (fs gs : List LiveFlow) (rs ss : List Room) → fs 
 same-view c fs gs rs ss flows rooms = rw (flows, rooms)
 
 -- a lawful grant keeps a flow sound
-pub granted-sound : (c : Config) (start bytes room : ℕ) (f : LiveFlow) → IsSoundFlow c f
+pub granted-sound : (c : Config) (start bytes room : ℕ) (f : LiveFlow) → IsSoundFlow c f → f.earlier ≤ length f.grants
     → MayGrant c f start room bytes → IsSoundFlow c (with_grant (record { start = start; bytes = bytes }) f)
-granted-sound c start bytes room f is may =
+granted-sound c start bytes room f is few may =
     let all = sum_by-append (λ (g : Grant). g.bytes) f.grants (record { start = start; bytes = bytes } ∷ []) in
-    record { within = omega (arith, is.within, may.asked, bytes-one start bytes); kept = may.taken.ceiling }
+    record {
+      within = omega (arith, is.within, may.asked, bytes-one start bytes);
+      kept = rw (period-more f (record { start = start; bytes = bytes }) few) may.taken.ceiling;
+    }

@@ -15,6 +15,7 @@ pub mod Overlays
 pub mod InParts
 pub mod Passing
 pub mod Pendings
+pub mod Periods
 pub mod Places
 pub mod Profile
 pub mod Queues
@@ -22,6 +23,7 @@ pub mod Removal
 pub mod Rooms
 pub mod RowsBucket
 pub mod RowsCeiling
+pub mod RowsChanges
 pub mod RowsChoice
 pub mod NextServed
 pub mod Serving

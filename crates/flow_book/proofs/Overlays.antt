@@ -6,7 +6,7 @@ use Rattle.std.specs.List.{AllZip, AllByRecursion}
 use Rattle.std.specs.Option.{IfSome}
 use Rattle.std.proofs.lemmas.Bool.{cases_eq, cond_both}
 use Rattle.std.proofs.lemmas.Bool.Decides.{nat_tests}
-use Rattle.std.proofs.lemmas.List.{length-set, get_or-set_same}
+use Rattle.std.proofs.lemmas.List.{length-set, length_push, get_or-set_same}
 use Rattle.std.proofs.lemmas.Option.{slice_get-map, slice_get-get_or, slice_get_within, get_or_from_slice_get}
 use Rattle.minislots.specs.declared.config.Config.{Config}
 use Rattle.minislots.specs.Config.{IsLawful}
@@ -15,8 +15,8 @@ use Rattle.sched_calls.specs.FlowSpec.{rank_of, rate_of, burst_of}
 use Rattle.flow_book.specs.declared.flow.Flow.{Flow}
 use Rattle.flow_book.specs.declared.flow.Grant.{Grant}
 use Rattle.flow_book.specs.declared.queue.Waiting.{Waiting}
-use Rattle.flow_book.specs.Flows.{LiveFlow, with_grant, outstanding}
-use Rattle.flow_book.specs.Bucket.{StandsFor, IsSettled, most_of, HasOneMore, StaysSettled}
+use Rattle.flow_book.specs.Flows.{LiveFlow, in_period, with_grant, outstanding}
+use Rattle.flow_book.specs.Bucket.{HaveStartedBy, StandsFor, IsSettled, most_of, HasOneMore, StaysSettled}
 use Rattle.flow_book.specs.Choice.{last_start, IsAmount, HasStartedBy}
 use Rattle.flow_book.specs.Entry.{live, IsBook, IsTurn, KeepsSums}
 use Rattle.flow_book.specs.Book.{changed}
@@ -31,6 +31,8 @@ use Rattle.flow_book.proofs.Amounts.{amount-of_most, most-in-bucket}
 use Rattle.flow_book.proofs.Changes.{placed-changed}
 use Rattle.flow_book.proofs.InParts.{served-each, order-none}
 use Rattle.flow_book.proofs.NextServed.{IsFound, found-next, served-book}
+use Rattle.flow_book.proofs.Periods.{period-more, since-started}
+use Rattle.flow_book.proofs.Started.{started-drop}
 use Rattle.flow_book.proofs.Queues.{with-one, in-new, in-old, in-one, among-as, among-same, among-others, same-but}
 use Rattle.flow_book.proofs.Queues.{all-both, stands-at, put-among, pass-among}
 use Rattle.flow_book.proofs.Once.{all-insert, in-inserted, in-still, once-insert}
@@ -131,7 +133,9 @@ module _ (c : Config) (items : List Flow) (queue served : List Waiting) (start r
 
   -- so its bucket is counted from a minislot on that is no later
   pub next-since : w.bucket.since ≤ start
-  next-since = rw (sym next-stands.bucket) (next-stands.keeps.bucket.since start next-stands.started)
+  next-since =
+      rw (sym next-stands.bucket)
+      (since-started c next-stands.flow start next-stands.keeps next-stands.started)
 
   -- and its turn after a grant is no earlier
   pub next-later : (n : ℕ) → ((rank : ℕ) (last : Option ℕ) (sid : ℕ) → IsTurn rank last sid w.turn
@@ -206,6 +210,13 @@ module _ (c : Config) (items : List Flow) (queue served queue_after served_after
     grants = record f.grants { items = f.grants.items ++ one_more start bytes };
   }
 
+  more-period : in_period (live granted-flow) ≡ in_period (live f) ++ one_more start bytes
+  more-period = period-more (live f) (record { start = start; bytes = bytes }) stands.keeps.period
+
+  -- those of the present period have started
+  began : HaveStartedBy start (in_period (live f))
+  began = started-drop start f.period.earlier f.grants.items stands.started
+
   keeps : KeepsSums c granted-flow
   keeps = record {
     asks = stands.keeps.asks;
@@ -216,11 +227,16 @@ module _ (c : Config) (items : List Flow) (queue served queue_after served_after
           (turn (rank_of f.spec) (last_start f.grants.items) f.sid
           (subst (IsTurn (rank_of f.spec) (last_start f.grants.items) f.sid) stands.turn stands.keeps.turn.1)),
     );
-    bucket = bucket c (rate_of f.spec) (burst_of f.spec) f.grants.items
-        (subst (λ b. StandsFor c (rate_of f.spec) (burst_of f.spec) b f.grants.items) stands.bucket stands.keeps.bucket)
-        stands.started;
-    settled = settled f.grants.items
-        (subst (λ b. IsSettled b f.grants.items) stands.bucket stands.keeps.settled) stands.started;
+    period = omega (
+      arith,
+      stands.keeps.period,
+      length_push f.grants.items (record { start = start; bytes = bytes }),
+    );
+    bucket = rw more-period (bucket c (rate_of f.spec) (burst_of f.spec) (in_period (live f))
+        (subst (λ b. StandsFor c (rate_of f.spec) (burst_of f.spec) b (in_period (live f))) stands.bucket
+        stands.keeps.bucket) began);
+    settled = rw more-period (settled (in_period (live f))
+        (subst (λ b. IsSettled b (in_period (live f))) stands.bucket stands.keeps.settled) began);
   }
 
   -- the flows with it

@@ -10,7 +10,14 @@ use Rattle.sched_calls.proofs.Base.{base}
 
 -- a flow of 64000 bits in a second and bursts of 1600 bytes that asked 3000 bytes, with these grants
 abbrev pub under_ceiling : List Grant → LiveFlow
-under_ceiling grants = record { sid = 17; spec = BestEffort 3 64000 1600; asked = 3000; batches = one_request 3000 801; grants = grants }
+under_ceiling grants = record {
+  sid = 17;
+  spec = BestEffort 3 64000 1600;
+  asked = 3000;
+  batches = one_request 3000 801;
+  grants = grants;
+  earlier = 0;
+}
 
 -- a grant
 abbrev pub grant : ℕ → ℕ → Grant
@@ -60,7 +67,7 @@ abbrev three : ℕ → List Grant
 three bytes = grant 844 544 ∷ grant 884 544 ∷ grant 924 bytes ∷ []
 
 -- each window of three grants with at most 528 bytes in the last keeps the ceiling
-kept : (bytes : ℕ) → bytes ≤ 528 → (i j : ℕ) → i ≤ j → j < 3
+pub kept : (bytes : ℕ) → bytes ≤ 528 → (i j : ℕ) → i ≤ j → j < 3
     → 1280000 * bytes_of (window (three bytes) i j) + start_of (three bytes) i * 4 * 64000
     ≤ start_of (three bytes) j * 4 * 64000 + 1280000 * 1600
 kept bytes few zero zero h k = lit≤ tt

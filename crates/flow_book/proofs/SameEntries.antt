@@ -6,7 +6,7 @@ use Rattle.minislots.specs.declared.config.Config.{Config}
 use Rattle.sched_calls.specs.FlowSpec.{rank_of, rate_of, burst_of}
 use Rattle.flow_book.specs.declared.flow.Flow.{Flow}
 use Rattle.flow_book.specs.declared.queue.Waiting.{Waiting}
-use Rattle.flow_book.specs.Flows.{LiveFlow, outstanding}
+use Rattle.flow_book.specs.Flows.{LiveFlow, outstanding, in_period}
 use Rattle.flow_book.specs.Bucket.{BucketView}
 use Rattle.flow_book.specs.Choice.{last_start}
 use Rattle.flow_book.specs.Entry.{live, IsBook, IsTurn, KeepsSums}
@@ -24,12 +24,13 @@ same-entry c f g keeps keeps' same =
     let spec : f.spec ≡ g.spec = ap (λ (h : LiveFlow). h.spec) same in
     let sid : f.sid ≡ g.sid = ap (λ (h : LiveFlow). h.sid) same in
     let grants : f.grants.items ≡ g.grants.items = ap (λ (h : LiveFlow). h.grants) same in
+    let earlier : f.period.earlier ≡ g.period.earlier = ap (λ (h : LiveFlow). h.earlier) same in
     let turn : f.turn ≡ g.turn =
     same-turn-of (rank_of f.spec) (last_start f.grants.items) f.sid f.turn g.turn keeps.turn.1
     (rw (spec, grants, sid) keeps'.turn.1) in
     let bucket : f.bucket ≡ g.bucket =
-    same-bucket c (rate_of f.spec) (burst_of f.spec) f.bucket g.bucket f.grants.items keeps.bucket
-    (rw (spec, grants) keeps'.bucket) keeps.settled (rw grants keeps'.settled) in
+    same-bucket c (rate_of f.spec) (burst_of f.spec) f.bucket g.bucket (in_period (live f)) keeps.bucket
+    (rw (spec, grants, earlier) keeps'.bucket) keeps.settled (rw (grants, earlier) keeps'.settled) in
     let wants : outstanding (live f) ≡ outstanding (live g) = ap outstanding same in
     ap (λ n. (n, outstanding (live f), f.bucket)) turn ∙ ap (λ n. (g.turn, n, f.bucket)) wants
     ∙ ap (λ b. (g.turn, outstanding (live g), b)) bucket

@@ -1,6 +1,6 @@
 -- The grants of all flows have started by a minislot, also after each change of a book.
 use Rattle.std.proofs.Common.{◌≡◌, refl, ℕ, ◌≤◌, ◌==◌, Bool, true, false, cond, List, [], ◌∷◌, ◌++◌, Option, None, Some}
-use Rattle.std.proofs.Common.{arith}
+use Rattle.std.proofs.Common.{zero, suc, drop, arith}
 use Rattle.std.specs.Prelude.{IfSome}
 use Rattle.std.specs.List.{AllByRecursion}
 use Rattle.flow_book.specs.declared.flow.Grant.{Grant}
@@ -45,6 +45,12 @@ pub all-changed : (P : LiveFlow → Type 0) (sid : ℕ) (change : LiveFlow → L
 all-changed P sid change [] keeps all = tt
 all-changed P sid change (f ∷ flows) keeps all =
     (changed-one P (f.sid == sid) change f (keeps f all.0) all.0, all-changed P sid change flows keeps all.1)
+
+-- where grants have started all but some of the first have
+pub started-drop : (now n : ℕ) (grants : List Grant) → HaveStartedBy now grants → HaveStartedBy now (drop n grants)
+started-drop now zero grants all = all
+started-drop now (suc n) [] all = tt
+started-drop now (suc n) (g ∷ grants) all = started-drop now n grants all.1
 
 -- grants with one more that starts now have started
 pub started-more : (now n : ℕ) (grants : List Grant) → HaveStartedBy now grants

@@ -1,19 +1,21 @@
 -- What flows keep beside their grants stays theirs.
-use Rattle.std.proofs.Common.{◌≡◌, true, refl, sym, ap, ◌∙◌, ℕ, zero, suc, ◌+◌, ◌<◌, ◌==◌, List, [], ◌∷◌, ◌++◌, Some}
-use Rattle.std.proofs.Common.{◌≤◌, length, get_or, set}
+use Rattle.std.proofs.Common.{◌≡◌, true, refl, sym, ap, ◌∙◌, subst, ℕ, zero, suc, ◌+◌, ◌<◌, ◌==◌, List, [], ◌∷◌, ◌++◌}
+use Rattle.std.proofs.Common.{◌≤◌, Some, length, get_or, set}
 use Rattle.std.specs.List.{AllByRecursion, insert}
 use Rattle.std.specs.Option.{IfSome}
 use Rattle.std.proofs.lemmas.List.Elements.{All-from_recursion}
 use Rattle.std.proofs.lemmas.List.Sums.{sum_by-append}
 use Rattle.minislots.specs.declared.config.Config.{Config}
+use Rattle.sched_calls.specs.declared.spec.FlowSpec.{FlowSpec}
 use Rattle.sched_calls.specs.FlowSpec.{takes_requests}
 use Rattle.flow_book.specs.declared.flow.Flow.{Flow}
 use Rattle.flow_book.specs.declared.flow.Grant.{Grant}
 use Rattle.flow_book.specs.Bucket.{HaveStartedBy}
-use Rattle.flow_book.specs.Flows.{LiveFlow, bytes_of, with_grant}
+use Rattle.flow_book.specs.Flows.{LiveFlow, bytes_of, granted, with_grant}
+use Rattle.flow_book.specs.Book.{with_spec}
 use Rattle.flow_book.specs.Choice.{last_start, MayGrant, KeepsWith}
-use Rattle.flow_book.specs.Entry.{live, asked_more, IsSoundFlow, KeepsSums, IsCopy, IsBook}
-use Rattle.flow_book.proofs.Changes.{all-set, placed-sound, placed-is_sound, asked-sound, granted-sound}
+use Rattle.flow_book.specs.Entry.{live, asked_more, asked_instead, IsSoundFlow, KeepsSums, IsCopy, IsBook}
+use Rattle.flow_book.proofs.Changes.{all-set, placed-sound, placed-is_sound, asked-sound, replaced-sound, granted-sound}
 use Rattle.flow_book.proofs.Windows.{one_more, bytes-one}
 use Rattle.flow_book.proofs.Places.{StandsAt, all-found}
 
@@ -56,12 +58,14 @@ copy-sums c f g is keeps =
     let spec : g.spec ≡ f.spec = ap (λ (h : LiveFlow). h.spec) is.same in
     let sid : g.sid ≡ f.sid = ap (λ (h : LiveFlow). h.sid) is.same in
     let asked : g.asked ≡ f.asked = ap (λ (h : LiveFlow). h.asked) is.same in
+    let earlier : g.period.earlier ≡ f.period.earlier = ap (λ (h : LiveFlow). h.earlier) is.same in
     record {
       asks = rw (asked, spec) keeps.asks;
       granted = is.granted ∙ keeps.granted ∙ ap bytes_of (sym grants);
       turn = rw (spec, grants, sid, is.turn) keeps.turn;
-      bucket = rw (spec, grants, is.bucket) keeps.bucket;
-      settled = rw (grants, is.bucket) keeps.settled;
+      period = rw (grants, earlier) keeps.period;
+      bucket = rw (spec, grants, earlier, is.bucket) keeps.bucket;
+      settled = rw (grants, earlier, is.bucket) keeps.settled;
     }
 
 -- flows keep their sums where a copy of one takes its place
@@ -90,9 +94,36 @@ asked-book c sid bytes heard items i f are is takes =
       asks = λ some. takes;
       granted = keeps.granted;
       turn = keeps.turn;
+      period = keeps.period;
       bucket = keeps.bucket;
       settled = keeps.settled;
     })
+
+-- and so where that asked for other bytes in the place of those outstanding
+pub replaced-book : (c : Config) (sid bytes heard : ℕ) (items : List Flow) (i : ℕ) (f : Flow) → IsBook c items
+    → StandsAt sid items i f → takes_requests f.spec ≡ true → IsBook c (set items i (asked_instead bytes heard f))
+replaced-book c sid bytes heard items i f are is takes =
+    let sound = placed-is_sound c sid items i f are.sound is in
+    let keeps = placed-sums c sid items i f are is in
+    placed-book c sid items i (asked_instead bytes heard f) f are is refl (replaced-sound c bytes heard (live f) sound)
+    (record {
+      asks = λ some. takes;
+      granted = keeps.granted;
+      turn = keeps.turn;
+      period = keeps.period;
+      bucket = keeps.bucket;
+      settled = keeps.settled;
+    })
+
+-- and so where that has other parameters and keeps its sums
+pub changed-book : (c : Config) (sid : ℕ) (spec : FlowSpec) (items : List Flow) (i : ℕ) (e f : Flow) → IsBook c items
+    → StandsAt sid items i f → live e ≡ with_spec spec (live f) → KeepsSums c e → IsBook c (set items i e)
+changed-book c sid spec items i e f are is changed keeps =
+    let sound = placed-is_sound c sid items i f are.sound is in
+    let within : granted (live e) ≤ e.asked =
+    subst (λ (g : LiveFlow). granted g ≤ g.asked) (sym changed) sound.within in
+    placed-book c sid items i e f are is (ap (λ (g : LiveFlow). g.sid) changed)
+    (record { within = within; kept = keeps.bucket.kept }) keeps
 
 -- and so where that is with a lawful grant more
 pub granted-book : (c : Config) (sid start bytes room : ℕ) (items : List Flow) (i : ℕ) (e f : Flow) → IsBook c items
@@ -101,6 +132,6 @@ pub granted-book : (c : Config) (sid start bytes room : ℕ) (items : List Flow)
     → (KeepsSums c f → KeepsWith c (live f) start bytes → KeepsSums c e) → IsBook c (set items i e)
 granted-book c sid start bytes room items i e f are is more may sums =
     let sound = placed-is_sound c sid items i f are.sound is in
+    let keeps = placed-sums c sid items i f are is in
     placed-book c sid items i e f are is (ap (λ (g : LiveFlow). g.sid) more)
-    (rw more (granted-sound c start bytes room (live f) sound may))
-    (sums (placed-sums c sid items i f are is) may.taken.ceiling)
+    (rw more (granted-sound c start bytes room (live f) sound keeps.period may)) (sums keeps may.taken.ceiling)

@@ -1,5 +1,5 @@
 -- The number of a flow's turn stands for its rank, the start of its last grant, and its SID.
-use Rattle.std.proofs.Common.{◌≡◌, ℕ, ◌+◌, ◌*◌, ◌/◌, ◌%◌, ◌^◌, ◌<◌, ◌≤◌, nat_lt, Option, None, Some, true, arith}
+use Rattle.std.proofs.Common.{◌≡◌, ℕ, ◌+◌, ◌-◌, ◌*◌, ◌/◌, ◌%◌, ◌^◌, ◌<◌, ◌≤◌, nat_lt, Option, None, Some, true, arith}
 use Rattle.std.specs.Option.{IfSome}
 use Rattle.std.proofs.lemmas.Bool.Decides.{nat_tests}
 use Rattle.flow_book.specs.Entry.{IsTurn}
@@ -41,3 +41,9 @@ pub turn-later : (r : ℕ) (a : Option ℕ) (x t start n : ℕ) → IsTurn r a x
     → n ≡ t / 2 ^ 81 * 2 ^ 81 + (start + 1) * 2 ^ 16 + t % 2 ^ 16 → t ≤ n
 turn-later r None x t start n e late is = omega (arith, e.0, e.1, is)
 turn-later r (Some m) x t start n e late is = omega (arith, e.0, e.1, e.2, late, is)
+
+-- in another rank a flow has the turn of the same last grant, and of the same SID
+pub turn-in : (r : ℕ) (a : Option ℕ) (x t rank n : ℕ) → IsTurn r a x t
+    → n ≡ (255 - rank) * 2 ^ 81 + t % 2 ^ 81 → IsTurn rank a x n
+turn-in r None x t rank n e is = (e.0, omega (arith, e.0, e.1, is))
+turn-in r (Some m) x t rank n e is = (e.0, e.1, omega (arith, e.0, e.1, e.2, is))

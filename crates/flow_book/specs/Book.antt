@@ -1,7 +1,9 @@
 -- What contracts see of a book: the live flows, and beside them the room for their grants.
-use Rattle.std.specs.Prelude.{ℕ, ◌+◌, ◌≤◌, ◌==◌, List, [], map, find, option_map, unwrap_or, IsSome, if◌then◌else◌}
+use Rattle.std.specs.Prelude.{ℕ, ◌+◌, ◌≤◌, Bool, ◌&&◌, ◌==◌, List, [], length, map, find, option_map, unwrap_or, IsSome}
+use Rattle.std.specs.Prelude.{if◌then◌else◌}
 use Rattle.minislots.specs.declared.config.Config.{Config}
 use Rattle.sched_calls.specs.declared.spec.FlowSpec.{FlowSpec}
+use Rattle.sched_calls.specs.FlowSpec.{rate_of, burst_of}
 use Rattle.flow_book.specs.Batches.{no_batches, with_request}
 use Rattle.flow_book.specs.Flows.{LiveFlow, flow_of, granted}
 use Rattle.flow_book.specs.Sids.{AscendBy, put_in, taken_out}
@@ -39,13 +41,30 @@ changed sid change flows = map (λ f. if f.sid == sid then change f else f) flow
 
 -- a flow just admitted
 abbrev pub new_flow : ℕ → FlowSpec → LiveFlow
-new_flow sid spec = record { sid = sid; spec = spec; asked = 0; batches = no_batches; grants = [] }
+new_flow sid spec =
+    record { sid = sid; spec = spec; asked = 0; batches = no_batches; grants = []; earlier = 0 }
 
 -- a flow that asked for so many bytes more, in a request that was heard at this minislot
 abbrev pub with_asked : ℕ → ℕ → LiveFlow → LiveFlow
 with_asked bytes heard f = record f {
   asked = f.asked + bytes;
   batches = with_request f.batches f.asked (granted f) bytes heard;
+}
+
+-- a flow whose bytes outstanding are so many from now on, by a request that was heard at this minislot: what was
+-- outstanding before is no longer asked for
+abbrev pub with_replaced : ℕ → ℕ → LiveFlow → LiveFlow
+with_replaced bytes heard f = with_asked bytes heard (record f { asked = granted f })
+
+-- two flows have the same ceiling
+abbrev pub has_ceiling_of : FlowSpec → FlowSpec → Bool
+has_ceiling_of spec other = rate_of spec == rate_of other && burst_of spec == burst_of other
+
+-- a flow with these parameters from now on: another ceiling begins a period
+abbrev pub with_spec : FlowSpec → LiveFlow → LiveFlow
+with_spec spec f = record f {
+  spec = spec;
+  earlier = if has_ceiling_of f.spec spec then f.earlier else length f.grants;
 }
 
 -- the room of the flow with this SID

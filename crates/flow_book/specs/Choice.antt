@@ -6,13 +6,13 @@ use Rattle.minislots.specs.declared.config.Config.{Config}
 use Rattle.minislots.specs.Units.{slots_for}
 use Rattle.sched_calls.specs.FlowSpec.{takes_requests, rank_of, rate_of, burst_of}
 use Rattle.flow_book.specs.declared.flow.Grant.{Grant}
-use Rattle.flow_book.specs.Flows.{LiveFlow, outstanding, flow_of}
+use Rattle.flow_book.specs.Flows.{LiveFlow, outstanding, in_period, flow_of}
 use Rattle.flow_book.specs.Ceiling.{KeepsCeiling}
 
 -- the flow keeps its ceiling with one grant more
 abbrev pub KeepsWith : Config → LiveFlow → ℕ → ℕ → Type 0
 KeepsWith c f start bytes =
-    KeepsCeiling c (rate_of f.spec) (burst_of f.spec) (f.grants ++ record { start = start; bytes = bytes } ∷ [])
+    KeepsCeiling c (rate_of f.spec) (burst_of f.spec) (in_period f ++ record { start = start; bytes = bytes } ∷ [])
 
 -- a grant of so many bytes at this minislot keeps the flow's ceiling, and fits the room
 pub record MayTake (c : Config) (f : LiveFlow) (start room bytes : ℕ) : Type 0 where

@@ -1,5 +1,5 @@
 -- What the fields of a flow stand for, and what is true of every book.
-use Rattle.std.specs.Prelude.{◌≡◌, true, ℕ, ◌+◌, ◌-◌, ◌*◌, ◌^◌, ◌<◌, ◌≤◌, List, map, Option, None, Some, min}
+use Rattle.std.specs.Prelude.{◌≡◌, true, ℕ, ◌+◌, ◌-◌, ◌*◌, ◌^◌, ◌<◌, ◌≤◌, List, length, map, Option, None, Some, min}
 use Rattle.std.specs.List.{AllByRecursion}
 use Rattle.minislots.specs.declared.config.Config.{Config}
 use Rattle.minislots.specs.Units.{bytes_in}
@@ -7,7 +7,7 @@ use Rattle.flow_book.specs.declared.flow.Flow.{Flow}
 use Rattle.flow_book.specs.declared.flow.Room as the_room
 use Rattle.sched_calls.specs.FlowSpec.{rank_of, rate_of, burst_of, takes_requests}
 use Rattle.flow_book.specs.Batches.{with_request}
-use Rattle.flow_book.specs.Flows.{LiveFlow, bytes_of, granted}
+use Rattle.flow_book.specs.Flows.{LiveFlow, bytes_of, granted, in_period}
 use Rattle.flow_book.specs.Ceiling.{KeepsCeiling}
 use Rattle.flow_book.specs.Choice.{last_start}
 use Rattle.flow_book.specs.Bucket.{StandsFor, IsSettled}
@@ -21,6 +21,7 @@ live f = record {
   asked = f.asked;
   batches = f.batches;
   grants = f.grants.items;
+  earlier = f.period.earlier;
 }
 
 -- it with so many bytes more that it asked, in a request that was heard at this minislot
@@ -29,6 +30,10 @@ asked_more bytes heard f = record f {
   asked = f.asked + bytes;
   batches = with_request f.batches f.asked (bytes_of f.grants.items) bytes heard;
 }
+
+-- it with so many bytes asked in the place of those outstanding, in a request that was heard at this minislot
+abbrev pub asked_instead : ℕ → ℕ → Flow → Flow
+asked_instead bytes heard f = asked_more bytes heard (record f { asked = bytes_of f.grants.items })
 
 -- its room
 abbrev pub room_in : Flow → Room
@@ -51,13 +56,15 @@ abbrev pub KnowsTurn : Flow → Type 0
 KnowsTurn f = (rank_of f.spec ≤ 255) × IsTurn (rank_of f.spec) (last_start f.grants.items) f.sid f.turn
 
 -- what a flow keeps beside its grants is theirs: their bytes, its turn after the last one, and the bucket of its rate
--- and burst that stands for them and is settled by them; and only a flow that takes requests has asked for bytes
+-- and burst that stands for those of the present period of its ceiling and is settled by them; and only a flow that
+-- takes requests has asked for bytes
 pub record KeepsSums (c : Config) (f : Flow) : Type 0 where
   pub asks : 0 < f.asked → takes_requests f.spec ≡ true
   pub granted : f.granted ≡ bytes_of f.grants.items
   pub turn : KnowsTurn f
-  pub bucket : StandsFor c (rate_of f.spec) (burst_of f.spec) f.bucket f.grants.items
-  pub settled : IsSettled f.bucket f.grants.items
+  pub period : f.period.earlier ≤ length f.grants.items
+  pub bucket : StandsFor c (rate_of f.spec) (burst_of f.spec) f.bucket (in_period (live f))
+  pub settled : IsSettled f.bucket (in_period (live f))
 
 -- g is a copy of f, with what is kept beside its grants
 pub record IsCopy (f g : Flow) : Type 0 where
@@ -66,10 +73,10 @@ pub record IsCopy (f g : Flow) : Type 0 where
   pub turn : g.turn ≡ f.turn
   pub bucket : g.bucket ≡ f.bucket
 
--- a flow was granted no more than it asked, within its rate ceiling
+-- a flow was granted no more than it asked, within its rate ceiling since this began
 pub record IsSoundFlow (c : Config) (f : LiveFlow) : Type 0 where
   pub within : granted f ≤ f.asked
-  pub kept : KeepsCeiling c (rate_of f.spec) (burst_of f.spec) f.grants
+  pub kept : KeepsCeiling c (rate_of f.spec) (burst_of f.spec) (in_period f)
 
 -- what is true of the flows of every book
 pub record IsSoundBook (c : Config) (flows : List LiveFlow) : Type 0 where

@@ -14,10 +14,18 @@ use Rattle.flow_book.specs.Flows.{LiveFlow}
 abbrev pub flows_code : Coded (List LiveFlow)
 flows_code =
     coded_list
-    (code_by (ℕ × (FlowSpec × (ℕ × (Batches × List Grant))))
-    (coded× coded_ℕ (coded× spec.the_row.coded (coded× coded_ℕ (coded× batches.the_row.coded grants_code))))
-    (λ f. (f.sid, (f.spec, (f.asked, (f.batches, f.grants)))))
-    (λ p. record { sid = p.0; spec = p.1.0; asked = p.1.1.0; batches = p.1.1.1.0; grants = p.1.1.1.1 })
+    (code_by (ℕ × (FlowSpec × (ℕ × (Batches × (List Grant × ℕ)))))
+    (coded× coded_ℕ
+    (coded× spec.the_row.coded (coded× coded_ℕ (coded× batches.the_row.coded (coded× grants_code coded_ℕ)))))
+    (λ f. (f.sid, (f.spec, (f.asked, (f.batches, (f.grants, f.earlier))))))
+    (λ p. record {
+      sid = p.0;
+      spec = p.1.0;
+      asked = p.1.1.0;
+      batches = p.1.1.1.0;
+      grants = p.1.1.1.1.0;
+      earlier = p.1.1.1.1.1;
+    })
     (λ _. refl))
 
 -- the grants of the flow at this place, and none where there is no flow

@@ -1,17 +1,18 @@
 -- The live flows, each with what it asked and was granted.
-use Rattle.std.specs.Prelude.{ℕ, ◌-◌, ◌==◌, List, [], ◌∷◌, ◌++◌, sum_by, find, Option}
+use Rattle.std.specs.Prelude.{ℕ, ◌-◌, ◌==◌, List, [], ◌∷◌, ◌++◌, sum_by, find, drop, Option}
 use Rattle.sched_calls.specs.declared.spec.FlowSpec.{FlowSpec}
 use Rattle.flow_book.specs.declared.batches.Batches.{Batches}
 use Rattle.flow_book.specs.declared.flow.Grant.{Grant}
 
--- a live flow: its SID and parameters, the bytes that it asked, the batches of its requests, and its data grants in
--- order
+-- a live flow: its SID and parameters, the bytes that it asked, the batches of its requests, its data grants in order,
+-- and how many of them came before the present period of its ceiling
 pub record LiveFlow : Type 0 where
   pub sid : ℕ
   pub spec : FlowSpec
   pub asked : ℕ
   pub batches : Batches
   pub grants : List Grant
+  pub earlier : ℕ
 
 -- the bytes of some grants
 abbrev pub bytes_of : List Grant → ℕ
@@ -24,6 +25,10 @@ granted f = bytes_of f.grants
 -- the bytes that a flow asked and was not granted
 abbrev pub outstanding : LiveFlow → ℕ
 outstanding f = f.asked - granted f
+
+-- its data grants in the present period of its ceiling
+abbrev pub in_period : LiveFlow → List Grant
+in_period f = drop f.earlier f.grants
 
 -- a flow with one grant more
 abbrev pub with_grant : Grant → LiveFlow → LiveFlow

@@ -5,14 +5,14 @@ ghost use Rattle.std.specs.Prelude.{IsSomeAnd, MatchOption, map, filter, option_
 ghost use Rattle.std.specs.List.{AllByRecursion, position_or_len};
 ghost use Rattle.minislots.specs.Units.{slots_for};
 ghost use Rattle.sched_calls.specs.FlowSpec.{takes_requests};
-ghost use Rattle.flow_book.specs.Flows.{flow_of, outstanding, with_grant};
+ghost use Rattle.flow_book.specs.Flows.{flow_of, granted, outstanding, with_grant};
 ghost use Rattle.flow_book.specs.Choice.{MayGrant, IsMost, IsAmount, IsNext, IsNextSid, NoneEligible};
 ghost use Rattle.flow_book.specs.Choice.{HasStartedBy};
 ghost use Rattle.flow_book.specs.Entry.{live, IsSoundFlow, IsBook, IsRoom, KeepsSums};
 ghost use Rattle.flow_book.specs.Queue.{IsQueue};
 ghost use Rattle.flow_book.specs.Shown.{is_shown, ack_of};
 ghost use Rattle.flow_book.specs.Book.{IsLive, Ascend, KeepsRoom, room_of, new_flow, with_flow, without, changed};
-ghost use Rattle.flow_book.specs.Book.{with_asked};
+ghost use Rattle.flow_book.specs.Book.{with_asked, with_replaced, with_spec};
 
 use crate::flow::{Flow, Room, first_eligible, reserve_each};
 use crate::flows::Flows;
@@ -224,6 +224,33 @@ impl Book {
     {
         let place = self.place(sid);
         self.flows.at_mut(place).ask(bytes, heard);
+        self.is_queued = follow(&mut self.queue, self.is_queued, &self.flows, place);
+    }
+
+    /// Leaves so many bytes outstanding of a live flow that takes requests, in the place of those before, by a request
+    /// that was heard at minislot `heard`. They and the bytes granted fit a `u64`.
+    pub fn replace(&mut self, sid: u16, bytes: u32, heard: u64)
+        requires live { IsLive sid self.old.flows }
+        requires fits { IfSome (flow_of sid self.old.flows) (λ f. granted f + bytes < 2 ^ 64) }
+        requires asks { IfSome (flow_of sid self.old.flows) (λ f. takes_requests f.spec ≡ true) }
+        ensures { self.new ≡ record self.old
+            { flows = changed sid (with_replaced bytes heard) self.old.flows } }
+    {
+        let place = self.place(sid);
+        self.flows.at_mut(place).replace(bytes, heard);
+        self.is_queued = follow(&mut self.queue, self.is_queued, &self.flows, place);
+    }
+
+    /// Gives a live flow other parameters, of its kind. What it asked and was granted stays. Another rate or burst
+    /// begins a period of its ceiling, full.
+    pub fn change(&mut self, sid: u16, spec: FlowSpec)
+        requires live { IsLive sid self.old.flows }
+        requires kind { IfSome (flow_of sid self.old.flows)
+            (λ f. takes_requests spec ≡ takes_requests f.spec) }
+        ensures { self.new ≡ record self.old { flows = changed sid (with_spec spec) self.old.flows } }
+    {
+        let place = self.place(sid);
+        self.flows.at_mut(place).change(&self.config, spec);
         self.is_queued = follow(&mut self.queue, self.is_queued, &self.flows, place);
     }
 

@@ -7,15 +7,15 @@ ghost use Rattle.std.specs.List.{AllByRecursion};
 ghost use Rattle.minislots.specs.declared.config.Config.{Config};
 ghost use Rattle.minislots.specs.Config.{IsLawful};
 ghost use Rattle.sched_calls.specs.FlowSpec.{rate_of, burst_of};
-ghost use Rattle.flow_book.specs.Flows.{granted, outstanding, with_grant};
+ghost use Rattle.flow_book.specs.Flows.{granted, outstanding, in_period, with_grant};
 ghost use Rattle.flow_book.specs.Choice.{is_before, IsEligible, IsMost, KeepsWith};
 ghost use Rattle.flow_book.specs.Choice.{IsNextOf, HasStartedBy};
 ghost use Rattle.sched_calls.specs.FlowSpec.{takes_requests};
 ghost use Rattle.flow_book.specs.Bucket.{HaveStartedBy, StandsFor, IsSettled};
 ghost use Rattle.flow_book.specs.Entry.{live, room_in, IsSoundFlow, IsSoundBook, IsTurn, KnowsTurn, KeepsSums};
-ghost use Rattle.flow_book.specs.Entry.{asked_more};
+ghost use Rattle.flow_book.specs.Entry.{asked_more, asked_instead};
 ghost use Rattle.flow_book.specs.Queue.{entry_of};
-ghost use Rattle.flow_book.specs.Book.{KeepsRoom, new_flow};
+ghost use Rattle.flow_book.specs.Book.{KeepsRoom, new_flow, has_ceiling_of, with_spec};
 ghost use Rattle.flow_book.specs.Batches.{since_of};
 ghost use Rattle.flow_book.specs.declared.flow.Flow.{Flow};
 
@@ -23,6 +23,7 @@ use crate::batches::Batches;
 use crate::bucket::Bucket;
 use crate::flows::Flows;
 use crate::granted::GrantList;
+use crate::period::Period;
 use crate::queue::Waiting;
 use minislots::Checked;
 use sched_calls::FlowSpec;
@@ -79,6 +80,8 @@ pub(crate) struct Flow {
     pub(crate) sid: u16,
     // The data grants, in order, for contracts alone.
     pub(crate) grants: GrantList,
+    // The present period of its ceiling, for contracts alone.
+    pub(crate) period: Period,
 }
 
 impl Flow {
@@ -96,6 +99,7 @@ impl Flow {
             turn: turn_of(spec.rank(), sid),
             bucket: Bucket::open(config, spec.rate(), spec.burst()),
             grants: GrantList::none(),
+            period: Period::first(),
         }
     }
 
@@ -126,6 +130,31 @@ impl Flow {
             .batches
             .with_request(self.asked, self.granted, bytes, heard);
         self.asked += u64::from(bytes);
+    }
+
+    // Asks for so many bytes in the place of those outstanding, in a request that was heard at this minislot.
+    pub(crate) fn replace(&mut self, bytes: u32, heard: u64)
+        requires sum { self.old.granted ≡ granted (live self.old) }
+        requires fits { granted (live self.old) + bytes < 2 ^ 64 }
+        ensures { self.new ≡ asked_instead bytes heard self.old }
+    {
+        self.asked = self.granted;
+        self.ask(bytes, heard);
+    }
+
+    // Gives the flow these parameters. Another ceiling begins a period, with a full bucket.
+    pub(crate) fn change(&mut self, config: &Checked, spec: FlowSpec)
+        ensures live { live self.new ≡ with_spec spec (live self.old) }
+        ensures room { room_in self.new ≡ room_in self.old }
+        ensures sums { takes_requests spec ≡ takes_requests self.old.spec
+            → KeepsSums config.now self.old → KeepsSums config.now self.new }
+    {
+        self.turn = turn_in(self.turn, spec.rank());
+        if !has_ceiling_of(&self.spec, &spec) {
+            self.bucket = Bucket::open(config, spec.rate(), spec.burst());
+            self.period = Period::behind(&self.grants);
+        }
+        self.spec = spec;
     }
 
     // Whether the flow waits for bytes.
@@ -236,10 +265,11 @@ impl Flow {
         ensures sums { (c : Config)
             → (0 < self.old.asked → takes_requests self.old.spec ≡ true)
             → self.old.granted ≡ granted (live self.old) → KnowsTurn self.old
+            → self.old.period.earlier ≤ length self.old.grants.items
             → StandsFor c (rate_of self.old.spec) (burst_of self.old.spec) self.old.bucket
-            (self.old.grants.items ++ record { start = start; bytes = bytes } ∷ [])
+            (in_period (live self.old) ++ record { start = start; bytes = bytes } ∷ [])
             → IsSettled self.old.bucket
-            (self.old.grants.items ++ record { start = start; bytes = bytes } ∷ [])
+            (in_period (live self.old) ++ record { start = start; bytes = bytes } ∷ [])
             → KeepsSums c self.new }
     {
         self.granted += u64::from(bytes);
@@ -299,6 +329,20 @@ fn turn_of(rank: u8, sid: u16) -> u128
     ensures { IsTurn rank None sid result }
 {
     u128::from(u8::MAX - rank) * TURNS * SIDS + u128::from(sid)
+}
+
+// The turn of a flow that had this one, in this rank: its last data grant and its SID are the same.
+fn turn_in(turn: u128, rank: u8) -> u128
+    ensures { (before sid : ℕ) (last : Option ℕ) → IsTurn before last sid turn → IsTurn rank last sid result }
+{
+    u128::from(u8::MAX - rank) * RANKS + turn % RANKS
+}
+
+// Whether two flows have the same ceiling.
+fn has_ceiling_of(spec: &FlowSpec, other: &FlowSpec) -> bool
+    ensures { result ≡ has_ceiling_of spec.now other.now }
+{
+    spec.rate() == other.rate() && spec.burst() == other.burst()
 }
 
 // The turn of a flow that had this one, after a data grant that starts there: of the same rank and SID.

@@ -11,6 +11,7 @@ mod flows;
 mod granted;
 mod overlay;
 mod parts;
+mod period;
 mod queue;
 mod shown;
 mod taking;

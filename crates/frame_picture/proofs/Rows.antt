@@ -173,6 +173,7 @@ module _ (scale : Scale) (span : Span) (h : List Entry) (fs : List Frame) (flows
       ≡ rows fs ++ entry_text scale (place_in span (length fs)) (λ sid. get_or flows sid false) reply
   next_rows (replies.Built m) whole = next_row m whole
   next_rows (replies.Admitted placement) whole = still (replies.Admitted placement) refl
+  next_rows (replies.Changed placement) whole = still (replies.Changed placement) refl
   next_rows replies.Removed whole = still replies.Removed refl
   next_rows replies.Taken whole = still replies.Taken refl
   next_rows replies.Noted whole = still replies.Noted refl

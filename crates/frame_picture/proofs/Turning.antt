@@ -49,6 +49,7 @@ turned_admit : (sid other : ℕ) (spec : FlowSpec) (reply : Reply) (before : Boo
     ≡ changed_by (turn_of (calls.Admit other spec) reply) sid before
 turned_admit sid other spec (replies.Admitted placement) before =
     turned_if (other == sid) (Begins (record { spec = spec; placement = placement })) before
+turned_admit sid other spec (replies.Changed placement) before = refl
 turned_admit sid other spec replies.Removed before = refl
 turned_admit sid other spec replies.Taken before = refl
 turned_admit sid other spec replies.Noted before = refl
@@ -62,6 +63,7 @@ turned_remove : (sid other : ℕ) (reply : Reply) (before : Bool)
     → turned_by (turn_by sid (calls.Remove other) reply) before
     ≡ changed_by (turn_of (calls.Remove other) reply) sid before
 turned_remove sid other (replies.Admitted placement) before = refl
+turned_remove sid other (replies.Changed placement) before = refl
 turned_remove sid other replies.Removed before = turned_if (other == sid) Ends before
 turned_remove sid other replies.Taken before = refl
 turned_remove sid other replies.Noted before = refl
@@ -83,6 +85,10 @@ turned sid (calls.Skip now) reply before = refl
 turned sid (calls.Status other) reply before = refl
 turned sid (calls.Reserve usage slots) reply before = refl
 turned sid (calls.Header header) reply before = refl
+turned sid (calls.Replace receiver other amount heard) reply before = refl
+turned sid (calls.Change other spec) reply before = refl
+turned sid (calls.Rest other) reply before = refl
+turned sid (calls.Wake other) reply before = refl
 
 -- what is known of a SID after an entry
 pub known_after : (sid : ℕ) (h : List Entry) (e : Entry)

@@ -17,7 +17,7 @@ is_unsolicited (Unsolicited size interval jitter grants) = true
 is_unsolicited (Polled interval jitter rate burst) = false
 is_unsolicited (BestEffort priority rate burst) = false
 
--- whether there is a life, of an unsolicited flow
+-- whether there is a life, of an unsolicited flow: no change makes a flow of another kind
 abbrev pub is_unsolicited_life : Option Life → Bool
 is_unsolicited_life None = false
 is_unsolicited_life (Some life) = is_unsolicited life.admission.spec

@@ -1,5 +1,5 @@
 -- The MAP of each entry that is read is well formed.
-use Rattle.std.proofs.Common.{◌≡◌, ℕ, ◌+◌, ◌^◌, Bool, true, false, cond, ◌||◌, List, Option, Some, None, Result, Ok}
+use Rattle.std.proofs.Common.{◌≡◌, ℕ, ◌+◌, ◌^◌, Bool, true, false, cond, List, Option, Some, None, Result, Ok}
 use Rattle.std.proofs.Common.{Err}
 use Rattle.std.proofs.Common.{refl, subst}
 use Rattle.std.specs.Prelude.{IfOk, IfSome, ok_or, option_and_then, codes, bytes_eq}
@@ -16,7 +16,7 @@ use Rattle.minislots.specs.declared.config.ConfigFault.{ConfigFault}
 use Rattle.minislots.specs.Config.{first_wrong}
 use Rattle.sched_calls.specs.Reply.{IsEncodable}
 use Rattle.sched_calls.specs.declared.reply.Reply.{Reply}
-use Rattle.sched_calls.specs.declared.reply.Reply.TheVariants.{Admitted, Removed, Taken, Noted, Reserved}
+use Rattle.sched_calls.specs.declared.reply.Reply.TheVariants.{Admitted, Changed, Removed, Taken, Noted, Reserved}
 use Rattle.sched_calls.specs.declared.reply.Entry.{Entry}
 use Rattle.text_stream.specs.declared.fault.TextFault.{TextFault}
 use Rattle.text_stream.specs.declared.fault.TextFault.TheVariants.{Shape}
@@ -26,8 +26,9 @@ use Rattle.text_stream.specs.Input.{value_of}
 use Rattle.text_stream.specs.Input.{Gives}
 use Rattle.text_stream.specs.Outcome.{unless_wrong}
 use Rattle.history_reading.specs.Refusals.{refusal_with}
-use Rattle.history_reading.specs.Replies.{numbers_at, has, placed_reply, admitted_reply, map_of, map_at, map_reply}
-use Rattle.history_reading.specs.Replies.{skipped_reply, flow_reply, u64_if, refused_reply, reply_of, entry_of}
+use Rattle.history_reading.specs.Replies.{numbers_at, place_of, admitted_reply, changed_reply, map_of, map_at}
+use Rattle.history_reading.specs.Replies.{map_reply, skipped_reply, flow_reply, u64_if, refused_reply, reply_of}
+use Rattle.history_reading.specs.Replies.{entry_of}
 use Rattle.history_reading.specs.Recorded.{History, entries_of, entry_in, history_of, history_in}
 use Rattle.history_reading.proofs.FewEntries.{holds-bind, any as any_result}
 use Rattle.history_reading.proofs.Payload.{spelling-map_of}
@@ -74,16 +75,13 @@ map_reply-encodable d =
     bind IsWellFormed IsEncodable (map_at (codes "hex") d) _ (map_at-formed (codes "hex") d) (λ wire formed.
     then_any IsEncodable (numbers_at (2 ^ 32) (codes "bytes") d) _ (λ bytes. formed))))
 
-placed_reply-encodable : (d : Data) → IfSome (placed_reply d) IsEncodable
-unfolding placed_reply
-placed_reply-encodable d =
-    then_any IsEncodable (u64_at (codes "reference") d) _ (λ reference.
-    then_any IsEncodable (numbers_at (2 ^ 16) (codes "starts") d) _ (λ starts. tt))
-
 admitted_reply-encodable : (d : Data) → IfSome (admitted_reply d) IsEncodable
 unfolding admitted_reply
-admitted_reply-encodable d = either (has (codes "reference") d || has (codes "starts") d) (placed_reply d)
-    (Some (Admitted None)) (placed_reply-encodable d) tt
+admitted_reply-encodable d = then_any IsEncodable (place_of d) _ (λ place. tt)
+
+changed_reply-encodable : (d : Data) → IfSome (changed_reply d) IsEncodable
+unfolding changed_reply
+changed_reply-encodable d = then_any IsEncodable (place_of d) _ (λ place. tt)
 
 skipped_reply-encodable : (d : Data) → IfSome (skipped_reply d) IsEncodable
 unfolding skipped_reply
@@ -115,7 +113,8 @@ reply_of-encodable d =
     (either (bytes_eq kind (codes "skipped")) (skipped_reply d) _ (skipped_reply-encodable d)
     (either (bytes_eq kind (codes "flow")) (flow_reply d) _ (flow_reply-encodable d)
     (either (bytes_eq kind (codes "refused")) (refused_reply d) _ (refused_reply-encodable d)
-    (either (bytes_eq kind (codes "reserved")) (Some Reserved) None tt tt)))))))))
+    (either (bytes_eq kind (codes "reserved")) (Some Reserved) _ tt
+    (either (bytes_eq kind (codes "changed")) (changed_reply d) None (changed_reply-encodable d) tt))))))))))
 
 -- the MAP of an entry is well formed
 abbrev HasBytes : Entry → Type 0

@@ -14,9 +14,10 @@ use Rattle.serde_json.proofs.Numbers.{number_of-decimal}
 use Rattle.serde_json.specs.View.{items_of}
 use Rattle.map_codec.specs.declared.wire_map.WireMap.{WireMap}
 use Rattle.sched_calls.specs.declared.call.Call.{Call}
+use Rattle.sched_calls.specs.declared.placement.Placement.{Placement}
 use Rattle.sched_calls.specs.declared.reply.Reply.{Reply}
 use Rattle.sched_calls.specs.declared.reply.Reply.TheVariants.{Admitted, Removed, Taken, Noted, Built, Skipped, Flow}
-use Rattle.sched_calls.specs.declared.reply.Reply.TheVariants.{Refused, Reserved}
+use Rattle.sched_calls.specs.declared.reply.Reply.TheVariants.{Refused, Reserved, Changed}
 use Rattle.sched_calls.specs.declared.reply.Refusal.{Refusal}
 use Rattle.json_fields.specs.Fields.{below, u32_at, u64_at, number_at, text_at}
 use Rattle.json_fields.specs.Listed.{StandEach}
@@ -27,10 +28,10 @@ use Rattle.json_fields.proofs.Things.{StandEach-push}
 use Rattle.call_reading.proofs.Quick.{goes_on}
 use Rattle.call_reading.specs.Calls.{call_of}
 use Rattle.history_reading.specs.Refusals.{refusal_with}
-use Rattle.history_reading.specs.Replies.{number_below, numbers_of, numbers_at, placed_reply, admitted_reply, map_of}
-use Rattle.history_reading.specs.Replies.{map_at, map_reply, skipped_reply, flow_reply, u64_if, refused_reply, reply_of}
-use Rattle.history_reading.specs.Replies.{entry_of}
-use Rattle.history_reading.specs.Spelled.{IsMember, AreMembers, with_value}
+use Rattle.history_reading.specs.Replies.{number_below, numbers_of, numbers_at, placement_of, place_of, admitted_reply}
+use Rattle.history_reading.specs.Replies.{changed_reply, map_of, map_at, map_reply, skipped_reply, flow_reply, u64_if}
+use Rattle.history_reading.specs.Replies.{refused_reply, reply_of, entry_of}
+use Rattle.history_reading.specs.Spelled.{IsMember, AreMembers, SaysPlace, MakesReply, with_value}
 
 -- ---- members
 
@@ -157,18 +158,42 @@ flow_made asked granted outstanding asked_fits granted_fits outstanding_fits =
     rw (below-fits (2 ^ 64) asked asked_fits) (rw (below-fits (2 ^ 64) granted granted_fits) (
     rw (below-fits (2 ^ 64) outstanding outstanding_fits) refl))
 
--- an admission without a placement
-pub admitted_made : reply_of (object (of_kind (codes "admitted"))) ≡ Some (Admitted None)
-unfolding reply_of admitted_reply text_at
-admitted_made = refl
+-- the kind stands alone: there is no placement
+pub nowhere : {depth : ℕ} {old new : List Token} (kind : List ℕ) → read_key old ≡ Some (None, new)
+    → SaysPlace depth kind (of_kind kind) None old new
+unfolding place_of text_at
+nowhere kind end = record { all = of_kind kind; are = members_ended end; kind_is = refl; place_is = refl }
 
--- an admission with a placement
-pub placed_made : (reference : ℕ) (ds : Items) (starts : List ℕ) → reference < 2 ^ 64
+-- a reference and starts
+abbrev placed_members : List ℕ → ℕ → Items → Members
+placed_members kind reference ds =
+    put (codes "starts") (array ds) (put (codes "reference") (count reference) (of_kind kind))
+
+-- stand behind a kind
+pub placed_kind : (kind : List ℕ) (reference : ℕ) (ds : Items)
+    → text_at (codes "kind") (object (placed_members kind reference ds)) ≡ Some kind
+unfolding text_at
+placed_kind kind reference ds = refl
+
+-- and are a placement
+pub placed_made : (kind : List ℕ) (reference : ℕ) (ds : Items) (starts : List ℕ) → reference < 2 ^ 64
     → numbers_of (2 ^ 16) ds ≡ Some starts
-    → reply_of (object (put (codes "starts") (array ds) (put (codes "reference") (count reference)
-    (of_kind (codes "admitted"))))) ≡ Some (Admitted (Some (record { reference = reference; starts = starts })))
-unfolding reply_of admitted_reply placed_reply numbers_at u64_at number_at text_at
-placed_made reference ds starts fits numbers = rw (below-fits (2 ^ 64) reference fits) (rw numbers refl)
+    → place_of (object (placed_members kind reference ds))
+    ≡ Some (Some (record { reference = reference; starts = starts }))
+unfolding place_of placement_of numbers_at u64_at number_at
+placed_made kind reference ds starts fits numbers = rw (below-fits (2 ^ 64) reference fits) (rw numbers refl)
+
+-- an admission, by its place
+pub admitted_made : {depth : ℕ} {found : Members} {place : Option Placement} {old new : List Token}
+    → SaysPlace depth (codes "admitted") found place old new → MakesReply depth found (Admitted place) old new
+unfolding reply_of admitted_reply
+admitted_made said = record { all = said.all; are = said.are; makes = rw said.kind_is (rw said.place_is refl) }
+
+-- a change, by its place
+pub changed_made : {depth : ℕ} {found : Members} {place : Option Placement} {old new : List Token}
+    → SaysPlace depth (codes "changed") found place old new → MakesReply depth found (Changed place) old new
+unfolding reply_of changed_reply
+changed_made said = record { all = said.all; are = said.are; makes = rw said.kind_is (rw said.place_is refl) }
 
 -- a skip
 pub skipped_made : (next : ℕ) → next < 2 ^ 64

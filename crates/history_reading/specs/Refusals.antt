@@ -8,6 +8,7 @@ use Rattle.sched_calls.specs.declared.reply.Refusal.TheVariants.{BadSid, SidLive
 use Rattle.sched_calls.specs.declared.reply.Refusal.TheVariants.{NoPlace, NoFlow, NotAsking, BadReceiver, BadBytes}
 use Rattle.sched_calls.specs.declared.reply.Refusal.TheVariants.{Acked, Ahead, Backwards, BadClock, TooEarly, Late}
 use Rattle.sched_calls.specs.declared.reply.Refusal.TheVariants.{NotLate, BadLength, ReservesFull, BadBackoff}
+use Rattle.sched_calls.specs.declared.reply.Refusal.TheVariants.{OtherKind, NotUnsolicited, TooShort}
 use Rattle.sched_lines.specs.Line.{fault_number, refusal_number, refusal_value}
 
 -- the faults in a flow's parameters
@@ -22,7 +23,7 @@ fault_with n = find (λ fault. fault_number fault == n) flow_faults
 abbrev pub plain_refusals : List Refusal
 plain_refusals =
     BadSid ∷ SidLive ∷ FlowsFull ∷ PeriodicFull ∷ NoPlace ∷ NoFlow ∷ NotAsking ∷ BadReceiver ∷ BadBytes ∷ BadClock
-    ∷ BadLength ∷ ReservesFull ∷ BadBackoff ∷ []
+    ∷ BadLength ∷ ReservesFull ∷ BadBackoff ∷ OtherKind ∷ NotUnsolicited ∷ TooShort ∷ []
 
 -- the refusals whose value is this minislot
 abbrev pub slot_refusals : ℕ → List Refusal

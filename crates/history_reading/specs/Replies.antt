@@ -9,9 +9,10 @@ use Rattle.serde_json.specs.Find.{get, as_number, as_u64, as_array}
 use Rattle.map_codec.specs.declared.wire_map.WireMap.{WireMap}
 use Rattle.map_codec.specs.WireMap.{map_in, spelling, IsWellFormed}
 use Rattle.map_codec.specs.DecodeFault.{fault_of}
+use Rattle.sched_calls.specs.declared.placement.Placement.{Placement}
 use Rattle.sched_calls.specs.declared.reply.Reply.{Reply}
 use Rattle.sched_calls.specs.declared.reply.Reply.TheVariants.{Admitted, Removed, Taken, Noted, Built, Skipped, Flow}
-use Rattle.sched_calls.specs.declared.reply.Reply.TheVariants.{Reserved, Refused}
+use Rattle.sched_calls.specs.declared.reply.Reply.TheVariants.{Reserved, Refused, Changed}
 use Rattle.sched_calls.specs.declared.reply.Entry.{Entry}
 use Rattle.json_fields.specs.Fields.{◌>>=◌, below, u32_at, u64_at, text_at}
 use Rattle.call_reading.specs.Calls.{call_of}
@@ -44,16 +45,28 @@ abbrev pub has : List ℕ → Data → Bool
 has key d = is_some (get key d)
 
 -- a placement: its reference, and its starts in the nominal frames
-unfoldable pub placed_reply : Data → Option Reply
-placed_reply d = do
+unfoldable pub placement_of : Data → Option Placement
+placement_of d = do
   reference ← u64_at (codes "reference") d
   starts ← numbers_at (2 ^ 16) (codes "starts") d
-  Some (Admitted (Some (record { reference = reference; starts = starts })))
+  Some (record { reference = reference; starts = starts })
 
--- an admission: a reference and starts, or neither
+-- the place of a flow: a reference and starts, or neither
+unfoldable pub place_of : Data → Option (Option Placement)
+place_of d =
+    if has (codes "reference") d || has (codes "starts") d then (placement_of d >>= (λ p. Some (Some p))) else Some None
+
+-- an admission
 unfoldable pub admitted_reply : Data → Option Reply
-admitted_reply d =
-    if has (codes "reference") d || has (codes "starts") d then placed_reply d else Some (Admitted None)
+admitted_reply d = do
+  place ← place_of d
+  Some (Admitted place)
+
+-- a change
+unfoldable pub changed_reply : Data → Option Reply
+changed_reply d = do
+  place ← place_of d
+  Some (Changed place)
 
 -- the MAP of which these bytes are the payload
 unfoldable pub map_of : List ℕ → Option WireMap
@@ -119,7 +132,8 @@ reply_of d = do
       else (if bytes_eq kind (codes "flow") then flow_reply d
       else (if bytes_eq kind (codes "refused") then refused_reply d
       else (if bytes_eq kind (codes "reserved") then Some Reserved
-      else None))))))))
+      else (if bytes_eq kind (codes "changed") then changed_reply d
+      else None)))))))))
 
 -- the entry that an object stands for: a stamp, a call and a reply
 unfoldable pub entry_of : Data → Option Entry

@@ -5,8 +5,10 @@ use Rattle.json.specs.Token.{Token}
 use Rattle.json.specs.Json.{read_key, members, value}
 use Rattle.serde_json.specs.Data.{Data, number, unsigned, object, Members, put}
 use Rattle.serde_json.specs.Read.{of_json, of_members, converted}
+use Rattle.sched_calls.specs.declared.placement.Placement.{Placement}
 use Rattle.sched_calls.specs.declared.reply.Reply.{Reply}
-use Rattle.history_reading.specs.Replies.{reply_of}
+use Rattle.json_fields.specs.Fields.{text_at}
+use Rattle.history_reading.specs.Replies.{place_of, reply_of}
 
 -- a member was read, this value under this key: the tokens that are left are fewer
 pub record IsMember (depth : ℕ) (key : List ℕ) (d : Data) (old new : List Token) : Type 0 where
@@ -25,6 +27,14 @@ pub record AreMembers (depth : ℕ) (found all : Members) (old new : List Token)
 abbrev pub with_value : Option ℕ → Members → Members
 with_value None found = found
 with_value (Some value) found = put (codes "value") (number (unsigned value)) found
+
+-- with the members found before, those that were left say this of a flow's place, in a reply of this kind
+pub record SaysPlace (depth : ℕ) (kind : List ℕ) (found : Members) (place : Option Placement) (old new : List Token)
+    : Type 0 where
+  pub all : Members
+  pub are : AreMembers depth found all old new
+  pub kind_is : text_at (codes "kind") (object all) ≡ Some kind
+  pub place_is : place_of (object all) ≡ Some place
 
 -- with the members found before, those that were left make this reply
 pub record MakesReply (depth : ℕ) (found : Members) (reply : Reply) (old new : List Token) : Type 0 where

@@ -1,17 +1,21 @@
--- Worked texts: the history of one MAP without flows, and requests.
-use Rattle.std.proofs.Common.{◌≡◌, [], ◌∷◌, ◌++◌, codes, refl}
+-- Worked texts: the history of one MAP without flows, requests, and how a flow changes, rests and wakes.
+use Rattle.std.proofs.Common.{◌≡◌, [], ◌∷◌, ◌++◌, codes, None, Some, refl}
 use Rattle.std.specs.Fmt.{digits}
 use Rattle.hex.proofs.OnLiterals.{hex_on_literals}
+use Rattle.serde_json.specs.Data.{number, unsigned, string, object, no_members, member}
 use Rattle.serde_json.specs.Written.{compact_text}
 use Rattle.serde_json.proofs.OnLiterals.{serde_json_on_literals}
 use Rattle.map_codec.specs.WireMap.{header, spelling}
 use Rattle.sched_calls.proofs.Base.{base}
 use Rattle.sched_calls.proofs.BaseMaps.{first_map}
 use Rattle.sched_calls.specs.declared.amount.Amount.TheVariants.{Bytes, Slots}
-use Rattle.sched_calls.specs.declared.call.Call.TheVariants.{Ask, Build}
-use Rattle.sched_calls.specs.declared.reply.Reply.TheVariants.{Built}
+use Rattle.sched_calls.specs.declared.spec.FlowSpec.{FlowSpec}
+use Rattle.sched_calls.specs.declared.call.Call.TheVariants.{Ask, Build, Replace, Change, Rest, Wake}
+use Rattle.sched_calls.specs.declared.reply.Refusal.TheVariants.{OtherKind, NotUnsolicited, TooShort}
+use Rattle.sched_calls.specs.declared.reply.Reply.TheVariants.{Built, Changed, Refused}
 use Rattle.sched_calls.specs.declared.reply.Entry.{Entry}
-use Rattle.history_writing.specs.Json.{counts, call_data, map_data, reply_data}
+use Rattle.history_writing.specs.Json.{counts, flow_data, call_data, plain_data, placed_data, map_data, refused_data}
+use Rattle.history_writing.specs.Json.{reply_data}
 use Rattle.history_writing.specs.HistoryText.{config_data, entry_data, entries_data, history_data, history_text}
 
 -- the MAP of the first frame, built at minislot 760
@@ -41,3 +45,56 @@ pub a_request_in_minislots : compact_text (call_data (Ask 1 17 (Slots 100) 801))
     ≡ codes "{\"call\":\"ask\",\"heard\":801,\"receiver\":1,\"sid\":17,\"slots\":100}"
 unfolding call_data digits serde_json_on_literals
 a_request_in_minislots = refl
+
+-- and so is one that supersedes those before
+pub nothing_left : compact_text (call_data (Replace 1 17 (Bytes 0) 801))
+    ≡ codes "{\"bytes\":0,\"call\":\"replace\",\"heard\":801,\"receiver\":1,\"sid\":17}"
+unfolding call_data digits serde_json_on_literals
+nothing_left = refl
+
+pub minislots_left : compact_text (call_data (Replace 1 17 (Slots 100) 801))
+    ≡ codes "{\"call\":\"replace\",\"heard\":801,\"receiver\":1,\"sid\":17,\"slots\":100}"
+unfolding call_data digits serde_json_on_literals
+minislots_left = refl
+
+-- a change has its parameters where an admission has them
+pub a_change : (spec : FlowSpec) → call_data (Change 17 spec) ≡ object (
+    member (codes "call") (string (codes "change")) (member (codes "flow") (flow_data spec) (
+    member (codes "sid") (number (unsigned 17)) no_members)))
+unfolding call_data
+a_change spec = refl
+
+-- a rest and a wake
+pub a_rest : compact_text (call_data (Rest 5)) ≡ codes "{\"call\":\"rest\",\"sid\":5}"
+unfolding call_data digits serde_json_on_literals
+a_rest = refl
+
+pub a_wake : compact_text (call_data (Wake 5)) ≡ codes "{\"call\":\"wake\",\"sid\":5}"
+unfolding call_data digits serde_json_on_literals
+a_wake = refl
+
+-- the reply to a change, without and with a place
+pub changed : compact_text (reply_data (Changed None)) ≡ codes "{\"kind\":\"changed\"}"
+unfolding reply_data plain_data serde_json_on_literals
+changed = refl
+
+pub changed_with_a_place : compact_text (reply_data (Changed (Some (record { reference = 844; starts = 4 ∷ 19 ∷ [] }))))
+    ≡ codes "{\"kind\":\"changed\",\"reference\":844,\"starts\":[4,19]}"
+unfolding reply_data placed_data counts digits serde_json_on_literals
+changed_with_a_place = refl
+
+-- the refusals of these calls
+pub refused_another_kind : compact_text (reply_data (Refused OtherKind))
+    ≡ codes "{\"kind\":\"refused\",\"number\":21}"
+unfolding reply_data refused_data digits serde_json_on_literals
+refused_another_kind = refl
+
+pub refused_another_flow : compact_text (reply_data (Refused NotUnsolicited))
+    ≡ codes "{\"kind\":\"refused\",\"number\":22}"
+unfolding reply_data refused_data digits serde_json_on_literals
+refused_another_flow = refl
+
+pub refused_a_short_grant : compact_text (reply_data (Refused TooShort))
+    ≡ codes "{\"kind\":\"refused\",\"number\":23}"
+unfolding reply_data refused_data digits serde_json_on_literals
+refused_a_short_grant = refl

@@ -15,10 +15,10 @@ use Rattle.sched_calls.specs.declared.frame_map.FrameMap.{FrameMap}
 use Rattle.sched_calls.specs.declared.opportunity.Usage.TheVariants.{Initial, Station}
 use Rattle.sched_calls.specs.declared.call.Call.{Call}
 use Rattle.sched_calls.specs.declared.call.Call.TheVariants.{Admit, Remove, Ask, Heard, Build, Skip, Status}
-use Rattle.sched_calls.specs.declared.call.Call.TheVariants.{Reserve, Header}
+use Rattle.sched_calls.specs.declared.call.Call.TheVariants.{Reserve, Header, Replace, Change, Rest, Wake}
 use Rattle.sched_calls.specs.declared.reply.Reply.{Reply}
 use Rattle.sched_calls.specs.declared.reply.Reply.TheVariants.{Admitted, Removed, Taken, Noted, Built, Skipped, Flow}
-use Rattle.sched_calls.specs.declared.reply.Reply.TheVariants.{Reserved, Refused}
+use Rattle.sched_calls.specs.declared.reply.Reply.TheVariants.{Reserved, Refused, Changed}
 use Rattle.sched_calls.specs.declared.reply.Entry.{Entry}
 use Rattle.sched_lines.specs.Line.{refusal_value}
 
@@ -48,6 +48,11 @@ CallFits (Reserve Initial slots) = slots < 2 ^ 32
 CallFits (Reserve (Station sid) slots) = (sid < 2 ^ 16) × (slots < 2 ^ 32)
 CallFits (Header header) = (header.ucd_count < 2 ^ 8) × (header.ranging_start < 2 ^ 8)
     × (header.ranging_end < 2 ^ 8) × (header.data_start < 2 ^ 8) × (header.data_end < 2 ^ 8)
+CallFits (Replace receiver sid amount heard) =
+    (receiver < 2 ^ 8) × (sid < 2 ^ 16) × AmountFits amount × (heard < 2 ^ 64)
+CallFits (Change sid spec) = (sid < 2 ^ 16) × FlowFits spec
+CallFits (Rest sid) = sid < 2 ^ 16
+CallFits (Wake sid) = sid < 2 ^ 16
 
 -- the numbers of a burst descriptor fit their type
 pub record ProfileFits (p : Profile) : Type 0 where
@@ -110,6 +115,7 @@ ValueFits (Some value) = value < 2 ^ 64
 -- the numbers of a reply fit their types, and its MAP is well formed
 abbrev pub ReplyFits : Reply → Type 0
 ReplyFits (Admitted placement) = PlacementFits placement
+ReplyFits (Changed placement) = PlacementFits placement
 ReplyFits Removed = Unit {0}
 ReplyFits Taken = Unit {0}
 ReplyFits Noted = Unit {0}

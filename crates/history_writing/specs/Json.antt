@@ -5,6 +5,7 @@ use Rattle.hex.specs.Hex.{encode_lower}
 use Rattle.serde_json.specs.Data.{Data, number, unsigned, string, array, object, no_members, member}
 use Rattle.serde_json.specs.View.{items_of}
 use Rattle.map_codec.specs.WireMap.{spelling}
+use Rattle.sched_calls.specs.declared.amount.Amount.{Amount}
 use Rattle.sched_calls.specs.declared.amount.Amount.TheVariants.{Bytes, Slots}
 use Rattle.sched_calls.specs.declared.spec.FlowSpec.{FlowSpec}
 use Rattle.sched_calls.specs.declared.spec.FlowSpec.TheVariants.{Unsolicited, Polled, BestEffort}
@@ -13,10 +14,10 @@ use Rattle.sched_calls.specs.declared.frame_map.FrameMap.{FrameMap}
 use Rattle.sched_calls.specs.declared.opportunity.Usage.TheVariants.{Initial, Station}
 use Rattle.sched_calls.specs.declared.call.Call.{Call}
 use Rattle.sched_calls.specs.declared.call.Call.TheVariants.{Admit, Remove, Ask, Heard, Build, Skip, Status}
-use Rattle.sched_calls.specs.declared.call.Call.TheVariants.{Reserve, Header}
+use Rattle.sched_calls.specs.declared.call.Call.TheVariants.{Reserve, Header, Replace, Change, Rest, Wake}
 use Rattle.sched_calls.specs.declared.reply.Reply.{Reply}
 use Rattle.sched_calls.specs.declared.reply.Reply.TheVariants.{Admitted, Removed, Taken, Noted, Built, Skipped, Flow}
-use Rattle.sched_calls.specs.declared.reply.Reply.TheVariants.{Reserved, Refused}
+use Rattle.sched_calls.specs.declared.reply.Reply.TheVariants.{Reserved, Refused, Changed}
 use Rattle.sched_lines.specs.Line.{refusal_number, refusal_value}
 
 -- a whole number
@@ -41,21 +42,29 @@ flow_data (BestEffort priority rate burst) = object (
     member (codes "burst") (count burst) (member (codes "kind") (string (codes "best_effort")) (
     member (codes "priority") (count priority) (member (codes "rate") (count rate) no_members))))
 
--- a call, by its name
-unfoldable pub call_data : Call → Data
-call_data (Admit sid spec) = object (
-    member (codes "call") (string (codes "admit")) (member (codes "flow") (flow_data spec) (
-    member (codes "sid") (count sid) no_members)))
-call_data (Remove sid) = object (member (codes "call") (string (codes "remove"))
-    (member (codes "sid") (count sid) no_members))
-call_data (Ask receiver sid (Bytes bytes) heard) = object (
-    member (codes "bytes") (count bytes) (member (codes "call") (string (codes "ask")) (
+-- a request of this name, with its bytes or with the minislots that it has in their place
+abbrev pub request_data : List ℕ → ℕ → ℕ → Amount → ℕ → Data
+request_data name receiver sid (Bytes bytes) heard = object (
+    member (codes "bytes") (count bytes) (member (codes "call") (string name) (
     member (codes "heard") (count heard) (member (codes "receiver") (count receiver) (
     member (codes "sid") (count sid) no_members)))))
-call_data (Ask receiver sid (Slots slots) heard) = object (
-    member (codes "call") (string (codes "ask")) (member (codes "heard") (count heard) (
+request_data name receiver sid (Slots slots) heard = object (
+    member (codes "call") (string name) (member (codes "heard") (count heard) (
     member (codes "receiver") (count receiver) (member (codes "sid") (count sid) (
     member (codes "slots") (count slots) no_members)))))
+
+-- a call of this name with the parameters of a flow
+abbrev pub parameters_data : List ℕ → ℕ → FlowSpec → Data
+parameters_data name sid spec = object (
+    member (codes "call") (string name) (member (codes "flow") (flow_data spec) (
+    member (codes "sid") (count sid) no_members)))
+
+-- a call, by its name
+unfoldable pub call_data : Call → Data
+call_data (Admit sid spec) = parameters_data (codes "admit") sid spec
+call_data (Remove sid) = object (member (codes "call") (string (codes "remove"))
+    (member (codes "sid") (count sid) no_members))
+call_data (Ask receiver sid amount heard) = request_data (codes "ask") receiver sid amount heard
 call_data (Heard receiver upto) = object (
     member (codes "call") (string (codes "heard")) (member (codes "receiver") (count receiver) (
     member (codes "upto") (count upto) no_members)))
@@ -77,15 +86,21 @@ call_data (Header header) = object (
     member (codes "ranging_end") (count header.ranging_end) (
     member (codes "ranging_start") (count header.ranging_start) (
     member (codes "ucd_count") (count header.ucd_count) no_members))))))
+call_data (Replace receiver sid amount heard) = request_data (codes "replace") receiver sid amount heard
+call_data (Change sid spec) = parameters_data (codes "change") sid spec
+call_data (Rest sid) = object (member (codes "call") (string (codes "rest"))
+    (member (codes "sid") (count sid) no_members))
+call_data (Wake sid) = object (member (codes "call") (string (codes "wake"))
+    (member (codes "sid") (count sid) no_members))
 
 -- a reply of this kind that says nothing more
 unfoldable pub plain_data : List ℕ → Data
 plain_data kind = object (member (codes "kind") (string kind) no_members)
 
--- the place of a flow
-unfoldable pub placed_data : Placement → Data
-placed_data p = object (
-    member (codes "kind") (string (codes "admitted")) (member (codes "reference") (count p.reference) (
+-- the place of a flow, in a reply of this kind
+unfoldable pub placed_data : List ℕ → Placement → Data
+placed_data kind p = object (
+    member (codes "kind") (string kind) (member (codes "reference") (count p.reference) (
     member (codes "starts") (counts p.starts) no_members)))
 
 -- a MAP, in a reply of this kind
@@ -106,7 +121,9 @@ refused_data n (Some value) = object (
 -- a reply, by its kind
 unfoldable pub reply_data : Reply → Data
 reply_data (Admitted None) = plain_data (codes "admitted")
-reply_data (Admitted (Some p)) = placed_data p
+reply_data (Admitted (Some p)) = placed_data (codes "admitted") p
+reply_data (Changed None) = plain_data (codes "changed")
+reply_data (Changed (Some p)) = placed_data (codes "changed") p
 reply_data Removed = plain_data (codes "removed")
 reply_data Taken = plain_data (codes "taken")
 reply_data Noted = plain_data (codes "noted")

@@ -80,7 +80,7 @@ pub enum Sort {
     Entry,
     /// A call. The name of its form stands under `call`.
     Call,
-    /// The flow of an admission. The name of its form stands under `kind`.
+    /// The flow of an admission or of a change. The name of its form stands under `kind`.
     Flow,
     /// A reply. The name of its form stands under `kind`.
     Reply,
@@ -189,6 +189,13 @@ const BYTES: Member = (
     Missing::UnlessSlots,
 );
 
+// What is left to wait for may be nothing.
+const BYTES_LEFT: Member = (
+    "bytes",
+    Holds::Lawful(u32::MAX as u64, 0, MAX_ASK as u64),
+    Missing::UnlessSlots,
+);
+
 const SLOTS_ASKED: Member = ("slots", U32, Missing::UnlessBytes);
 
 const HEARD: Member = ("heard", U64, MUST);
@@ -210,8 +217,11 @@ const SLOTS: Member = ("slots", U32, MUST);
 
 const EXPONENT: Holds = Holds::Lawful(u8::MAX as u64, 0, 15);
 
+/// The most forms that a sort has.
+pub const MOST_FORMS: usize = 13;
+
 /// The forms of a call.
-pub static CALLS: [Form; 9] = [
+pub static CALLS: [Form; MOST_FORMS] = [
     ("admit", &[CALL, SID, FLOW]),
     ("remove", &[CALL, SID]),
     ("ask", &[CALL, RECEIVER, SID, BYTES, SLOTS_ASKED, HEARD]),
@@ -231,6 +241,13 @@ pub static CALLS: [Form; 9] = [
             ("data_end", EXPONENT, MUST),
         ],
     ),
+    (
+        "replace",
+        &[CALL, RECEIVER, SID, BYTES_LEFT, SLOTS_ASKED, HEARD],
+    ),
+    ("change", &[CALL, SID, FLOW]),
+    ("rest", &[CALL, SID]),
+    ("wake", &[CALL, SID]),
 ];
 
 const KIND: Member = ("kind", Holds::Name, MUST);
@@ -295,11 +312,8 @@ const NUMBER: Member = ("number", U64, MUST);
 
 const VALUE: Member = ("value", U64, Missing::Nothing);
 
-/// The most forms that a sort has.
-pub const MOST_FORMS: usize = 9;
-
 /// The forms of a reply.
-pub static REPLIES: [Form; MOST_FORMS] = [
+pub static REPLIES: [Form; 10] = [
     ("admitted", &[KIND, REFERENCE, STARTS]),
     ("removed", &[KIND]),
     ("taken", &[KIND]),
@@ -309,4 +323,5 @@ pub static REPLIES: [Form; MOST_FORMS] = [
     ("flow", &[KIND, ASKED, GRANTED, OUTSTANDING]),
     ("refused", &[KIND, NUMBER, VALUE]),
     ("reserved", &[KIND]),
+    ("changed", &[KIND, REFERENCE, STARTS]),
 ];

@@ -13,17 +13,18 @@ use Rattle.minislots.specs.declared.bursts.Bursts.TheVariants.{Uniform, Describe
 use Rattle.minislots.specs.declared.bursts.Descriptors.{Descriptors}
 use Rattle.minislots.specs.declared.bursts.Profile.{Profile}
 use Rattle.minislots.specs.declared.config.Config.{Config}
+use Rattle.sched_calls.specs.declared.amount.Amount.{Amount}
 use Rattle.sched_calls.specs.declared.amount.Amount.TheVariants.{Bytes, Slots}
 use Rattle.sched_calls.specs.declared.spec.FlowSpec.{FlowSpec}
 use Rattle.sched_calls.specs.declared.spec.FlowSpec.TheVariants.{Unsolicited, Polled, BestEffort}
 use Rattle.sched_calls.specs.declared.call.Call.{Call}
 use Rattle.sched_calls.specs.declared.opportunity.Usage.TheVariants.{Initial, Station}
 use Rattle.sched_calls.specs.declared.call.Call.TheVariants.{Admit, Remove, Ask, Heard, Build, Skip, Status}
-use Rattle.sched_calls.specs.declared.call.Call.TheVariants.{Reserve, Header}
-use Rattle.history_writing.specs.Json.{count, flow_data, call_data}
+use Rattle.sched_calls.specs.declared.call.Call.TheVariants.{Reserve, Header, Replace, Change, Rest, Wake}
+use Rattle.history_writing.specs.Json.{count, flow_data, request_data, parameters_data, call_data}
 use Rattle.history_writing.specs.HistoryText.{profile_data, descriptors_data, front_members, back_members}
 use Rattle.history_writing.specs.HistoryText.{optional_member, members_with, config_data}
-use Rattle.history_writing.specs.Fits.{FlowFits, CallFits, ProfileFits, BurstsFit, ConfigFits}
+use Rattle.history_writing.specs.Fits.{FlowFits, AmountFits, CallFits, ProfileFits, BurstsFit, ConfigFits}
 use Rattle.laws.proofs.Readable.{IsReadable, AreReadable, MembersReadable, put_each}
 use Rattle.laws.proofs.ReadBack.{unsolicited_stands}
 
@@ -102,52 +103,56 @@ flow_readable (BestEffort priority rate burst) fits = (
   ),
 )
 
+-- a request is read again in its text
+request_readable : (called : List ℕ) (receiver sid : ℕ) (amount : Amount) (heard : ℕ) → are_ascii called ≡ true
+    → receiver < 2 ^ 8 → sid < 2 ^ 16 → AmountFits amount → heard < 2 ^ 64
+    → IsReadable (request_data called receiver sid amount heard)
+request_readable called receiver sid (Bytes bytes) heard small receivers sids fits times = (
+  refl,
+  (
+    refl,
+    of_word bytes fits,
+    (
+      refl,
+      name called small,
+      (
+        refl,
+        times,
+        (refl, of_byte receiver receivers, (refl, of_half sid sids, tt)),
+      ),
+    ),
+  ),
+)
+request_readable called receiver sid (Slots slots) heard small receivers sids fits times = (
+  refl,
+  (
+    refl,
+    name called small,
+    (
+      refl,
+      times,
+      (
+        refl,
+        of_byte receiver receivers,
+        (refl, of_half sid sids, (refl, of_word slots fits, tt)),
+      ),
+    ),
+  ),
+)
+
+-- so is a flow with its parameters
+parameters_readable : (called : List ℕ) (sid : ℕ) (spec : FlowSpec) → are_ascii called ≡ true → sid < 2 ^ 16
+    → FlowFits spec → IsReadable (parameters_data called sid spec)
+parameters_readable called sid spec small sids fits =
+    (refl, (refl, name called small, (refl, flow_readable spec fits, (refl, of_half sid sids, tt))))
+
 -- a call is read again in its text
 pub call_readable : (call : Call) → CallFits call → IsReadable (call_data call)
 unfolding call_data
-call_readable (Admit sid spec) fits =
-    (refl, (refl, name (codes "admit") refl, (refl, flow_readable spec fits.1, (refl, of_half sid fits.0, tt))))
+call_readable (Admit sid spec) fits = parameters_readable (codes "admit") sid spec refl fits.0 fits.1
 call_readable (Remove sid) fits = (refl, (refl, name (codes "remove") refl, (refl, of_half sid fits, tt)))
-call_readable (Ask receiver sid (Bytes bytes) heard) fits = (
-  refl,
-  (
-    refl,
-    of_word bytes fits.2,
-    (
-      refl,
-      name (codes "ask") refl,
-      (
-        refl,
-        fits.3,
-        (
-          refl,
-          of_byte receiver fits.0,
-          (refl, of_half sid fits.1, tt),
-        ),
-      ),
-    ),
-  ),
-)
-call_readable (Ask receiver sid (Slots slots) heard) fits = (
-  refl,
-  (
-    refl,
-    name (codes "ask") refl,
-    (
-      refl,
-      fits.3,
-      (
-        refl,
-        of_byte receiver fits.0,
-        (
-          refl,
-          of_half sid fits.1,
-          (refl, of_word slots fits.2, tt),
-        ),
-      ),
-    ),
-  ),
-)
+call_readable (Ask receiver sid amount heard) fits =
+    request_readable (codes "ask") receiver sid amount heard refl fits.0 fits.1 fits.2 fits.3
 call_readable (Heard receiver upto) fits =
     (refl, (refl, name (codes "heard") refl, (refl, of_byte receiver fits.0, (refl, fits.1, tt))))
 call_readable (Build now) fits = (refl, (refl, name (codes "build") refl, (refl, fits, tt)))
@@ -193,6 +198,11 @@ call_readable (Header header) fits = (
     ),
   ),
 )
+call_readable (Replace receiver sid amount heard) fits =
+    request_readable (codes "replace") receiver sid amount heard refl fits.0 fits.1 fits.2 fits.3
+call_readable (Change sid spec) fits = parameters_readable (codes "change") sid spec refl fits.0 fits.1
+call_readable (Rest sid) fits = (refl, (refl, name (codes "rest") refl, (refl, of_half sid fits, tt)))
+call_readable (Wake sid) fits = (refl, (refl, name (codes "wake") refl, (refl, of_half sid fits, tt)))
 
 profile_readable : (p : Profile) → ProfileFits p → IsReadable (profile_data p)
 unfolding profile_data

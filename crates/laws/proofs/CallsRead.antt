@@ -13,7 +13,7 @@ use Rattle.sched_calls.specs.declared.reply.Entry.{Entry}
 use Rattle.json_fields.specs.Fields.{◌>>=◌, below, number_at, u8_at, u16_at, u32_at, u64_at, text_at, or_number, u8_or}
 use Rattle.call_reading.specs.Calls.{unsolicited_of, polled_of, best_effort_of, flow_of, admit_call, remove_call}
 use Rattle.call_reading.specs.Calls.{amount_of, ask_call, heard_call, build_call, skip_call, status_call, usage_of}
-use Rattle.call_reading.specs.Calls.{reserve_call, header_call, call_of}
+use Rattle.call_reading.specs.Calls.{reserve_call, header_call, replace_call, change_call, rest_call, wake_call, call_of}
 use Rattle.text_stream.specs.Input.{value_of}
 use Rattle.text_stream.specs.declared.TheConstants.{MAX_LINE}
 use Rattle.history_writing.specs.Fits.{FlowFits, AmountFits, CallFits}
@@ -183,6 +183,29 @@ header-fits d =
     bind _ _ (u8_at (codes "data_start") d) _ (u8_at-below (codes "data_start") d) (λ from f.
     bind _ _ (u8_at (codes "data_end") d) _ (u8_at-below (codes "data_end") d) (λ to g. (a, b, e, f, g))))))
 
+replace-fits : (d : Data) → IfSome (replace_call d) CallFits
+unfolding replace_call
+replace-fits d =
+    bind _ CallFits (u8_at (codes "receiver") d) _ (u8_at-below (codes "receiver") d) (λ receiver a.
+    bind _ CallFits (u16_at (codes "sid") d) _ (u16_at-below (codes "sid") d) (λ sid b.
+    bind AmountFits CallFits (amount_of d) _ (amount-fits d) (λ amount e.
+    bind _ CallFits (u64_at (codes "heard") d) _ (u64_at-below (codes "heard") d) (λ heard f. (a, b, e, f)))))
+
+change-fits : (d : Data) → IfSome (change_call d) CallFits
+unfolding change_call
+change-fits d =
+    bind _ _ (u16_at (codes "sid") d) _ (u16_at-below (codes "sid") d) (λ sid small.
+    then_any CallFits (get (codes "flow") d) _ (λ found.
+    bind FlowFits CallFits (flow_of found) _ (flow-fits found) (λ flow fits. (small, fits))))
+
+rest-fits : (d : Data) → IfSome (rest_call d) CallFits
+unfolding rest_call
+rest-fits d = bind _ _ (u16_at (codes "sid") d) _ (u16_at-below (codes "sid") d) (λ sid small. small)
+
+wake-fits : (d : Data) → IfSome (wake_call d) CallFits
+unfolding wake_call
+wake-fits d = bind _ _ (u16_at (codes "sid") d) _ (u16_at-below (codes "sid") d) (λ sid small. small)
+
 -- the numbers of a call that was read fit
 pub call_of-fits : (d : Data) → IfSome (call_of d) CallFits
 unfolding call_of
@@ -196,7 +219,11 @@ call_of-fits d =
     (either CallFits (bytes_eq name (codes "skip")) (skip_call d) _ (skip-fits d)
     (either CallFits (bytes_eq name (codes "status")) (status_call d) _ (status-fits d)
     (either CallFits (bytes_eq name (codes "reserve")) (reserve_call d) _ (reserve-fits d)
-    (either CallFits (bytes_eq name (codes "header")) (header_call d) None (header-fits d) tt)))))))))
+    (either CallFits (bytes_eq name (codes "header")) (header_call d) _ (header-fits d)
+    (either CallFits (bytes_eq name (codes "replace")) (replace_call d) _ (replace-fits d)
+    (either CallFits (bytes_eq name (codes "change")) (change_call d) _ (change-fits d)
+    (either CallFits (bytes_eq name (codes "rest")) (rest_call d) _ (rest-fits d)
+    (either CallFits (bytes_eq name (codes "wake")) (wake_call d) None (wake-fits d) tt)))))))))))))
 
 -- the numbers of an entry's call fit
 abbrev HasFittingCall : Entry → Type 0

@@ -21,10 +21,10 @@ use Rattle.sched_calls.specs.declared.frame_map.FrameMap.{FrameMap}
 use Rattle.sched_calls.specs.declared.opportunity.Usage.TheVariants.{Initial, Station}
 use Rattle.sched_calls.specs.declared.call.Call.{Call}
 use Rattle.sched_calls.specs.declared.call.Call.TheVariants.{Admit, Remove, Ask, Heard, Build, Skip, Status}
-use Rattle.sched_calls.specs.declared.call.Call.TheVariants.{Reserve, Header}
+use Rattle.sched_calls.specs.declared.call.Call.TheVariants.{Reserve, Header, Replace, Change, Rest, Wake}
 use Rattle.sched_calls.specs.declared.reply.Reply.{Reply}
 use Rattle.sched_calls.specs.declared.reply.Reply.TheVariants.{Admitted, Removed, Taken, Noted, Built, Skipped, Flow}
-use Rattle.sched_calls.specs.declared.reply.Reply.TheVariants.{Reserved, Refused}
+use Rattle.sched_calls.specs.declared.reply.Reply.TheVariants.{Reserved, Refused, Changed}
 use Rattle.sched_calls.specs.declared.reply.Entry.{Entry}
 use Rattle.sched_lines.specs.Line.{refusal_number, refusal_value}
 use Rattle.history_writing.specs.Json.{count, counts, flow_data, call_data, plain_data, placed_data, map_data}
@@ -37,6 +37,7 @@ use Rattle.laws.proofs.TextRoom.{room, items_room, members_room}
 -- a placement has at most 512 starts, and a MAP at most 240 elements, with a byte count for each
 abbrev pub IsShort : Reply → Type 0
 IsShort (Admitted (Some p)) = length p.starts ≤ 512
+IsShort (Changed (Some p)) = length p.starts ≤ 512
 IsShort (Built m) = (length m.bytes ≤ 240) × (length m.wire.elements ≤ 240)
 IsShort reply = Unit {0}
 
@@ -67,6 +68,11 @@ room-call (Status sid) = omega arith
 room-call (Reserve Initial slots) = omega arith
 room-call (Reserve (Station sid) slots) = omega arith
 room-call (Header header) = omega arith
+room-call (Replace receiver sid (Bytes bytes) heard) = omega arith
+room-call (Replace receiver sid (Slots slots) heard) = omega arith
+room-call (Change sid spec) = omega (arith, room-flow spec)
+room-call (Rest sid) = omega arith
+room-call (Wake sid) = omega arith
 
 room-map : (kind : List ℕ) (m : FrameMap) → length kind ≤ 7 → length m.bytes ≤ 240 → length m.wire.elements ≤ 240
     → room (map_data kind m) ≤ 20000
@@ -87,6 +93,8 @@ room-reply : (reply : Reply) → IsShort reply → room (reply_data reply) ≤ 2
 unfolding reply_data plain_data placed_data
 room-reply (Admitted None) short = omega arith
 room-reply (Admitted (Some p)) short = omega (arith, room-counts p.starts, short)
+room-reply (Changed None) short = omega arith
+room-reply (Changed (Some p)) short = omega (arith, room-counts p.starts, short)
 room-reply Removed short = omega arith
 room-reply Taken short = omega arith
 room-reply Noted short = omega arith

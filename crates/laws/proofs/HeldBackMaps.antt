@@ -23,7 +23,7 @@ use Rattle.sched_calls.specs.declared.call.Call.{Call}
 use Rattle.sched_calls.specs.declared.call.Call.TheVariants as calls
 use Rattle.sched_calls.specs.declared.reply.Reply.TheVariants as replies
 use Rattle.sched_calls.specs.declared.reply.Entry.{Entry}
-use Rattle.sched_history.specs.Life.{turn_by, asked_by, grants_of_map, batches_by}
+use Rattle.sched_history.specs.Life.{turn_by, added_by, replaced_by, change_by, grants_of_map, batches_by}
 use Rattle.sched_history.specs.Life.{flows_of}
 use Rattle.sched_history.specs.Time.{next_after, ack_after}
 use Rattle.sched_history.specs.Reserves.{header_after}
@@ -66,13 +66,23 @@ turn-built sid (calls.Admit other spec) m = refl
 turn-built sid (calls.Remove other) m = refl
 turn-built sid call m = refl
 
-asked-built : (c : Config) (sid : ℕ) (call : Call) (m : FrameMap) → asked_by c sid call (replies.Built m) ≡ 0
-asked-built c sid (calls.Ask receiver other amount heard) m = refl
-asked-built c sid call m = refl
+added-built : (c : Config) (sid : ℕ) (call : Call) (m : FrameMap) → added_by c sid call (replies.Built m) ≡ 0
+added-built c sid (calls.Ask receiver other amount heard) m = refl
+added-built c sid call m = refl
+
+replaced-built : (c : Config) (sid : ℕ) (call : Call) (m : FrameMap) → replaced_by c sid call (replies.Built m) ≡ None
+replaced-built c sid (calls.Replace receiver other amount heard) m = refl
+replaced-built c sid call m = refl
+
+-- nor does it change a flow
+changed-built : (sid : ℕ) (call : Call) (m : FrameMap) → change_by sid call (replies.Built m) ≡ None
+changed-built sid (calls.Change other spec) m = refl
+changed-built sid call m = refl
 
 batches-built : (c : Config) (sid : ℕ) (call : Call) (m : FrameMap) (b : Batches) (asked granted : ℕ)
     → batches_by c sid call (replies.Built m) b asked granted ≡ b
 batches-built c sid (calls.Ask receiver other amount heard) m b asked granted = refl
+batches-built c sid (calls.Replace receiver other amount heard) m b asked granted = refl
 batches-built c sid call m b asked granted = refl
 
 module _ (c : Config) (h : List Entry) (e : Entry) (m : FrameMap) (same : e.reply ≡ replies.Built m)
@@ -93,7 +103,15 @@ module _ (c : Config) (h : List Entry) (e : Entry) (m : FrameMap) (same : e.repl
   grown-built f =
       let none : f.asked + 0 ≡ f.asked = omega arith in
       let batches = batches-built c f.sid e.call m f.batches f.asked (granted f) in
-      rw (same, asked-built c f.sid e.call m, batches, none, reads f.sid) refl
+      rw (
+        same,
+        changed-built f.sid e.call m,
+        replaced-built c f.sid e.call m,
+        added-built c f.sid e.call m,
+        batches,
+        none,
+        reads f.sid,
+      ) refl
 
   -- the flows after the MAP
   flows-built : after ≡ flows_after (next_after c h) plan (flows_of c h)

@@ -10,7 +10,7 @@ use Rattle.sched_calls.specs.declared.frame_map.FrameMap.{FrameMap}
 use Rattle.minislots.specs.declared.config.Config.{Config}
 use Rattle.sched_calls.specs.declared.reply.Reply.{Reply}
 use Rattle.sched_calls.specs.declared.reply.Reply.TheVariants.{Admitted, Removed, Taken, Noted, Built, Skipped, Flow}
-use Rattle.sched_calls.specs.declared.reply.Reply.TheVariants.{Refused, Reserved}
+use Rattle.sched_calls.specs.declared.reply.Reply.TheVariants.{Refused, Reserved, Changed}
 use Rattle.sched_calls.specs.declared.reply.Refusal.{Refusal}
 use Rattle.sched_calls.specs.declared.reply.Entry.{Entry}
 use Rattle.json_fields.specs.Fields.{u32_at, u64_at, number_at, text_at}
@@ -18,9 +18,9 @@ use Rattle.history_writing.specs.Json.{count, counts, plain_data, placed_data, m
 use Rattle.sched_lines.specs.Line.{refusal_number, refusal_value}
 use Rattle.history_writing.specs.HistoryText.{entry_data, entries_data, history_data}
 use Rattle.history_reading.specs.Refusals.{refusal_with}
-use Rattle.history_reading.specs.Replies.{number_below, numbers_of, numbers_at, placed_reply, admitted_reply, map_at}
-use Rattle.history_reading.specs.Replies.{map_reply, skipped_reply, flow_reply, u64_if, refused_reply, reply_of}
-use Rattle.history_reading.specs.Replies.{entry_of}
+use Rattle.history_reading.specs.Replies.{number_below, numbers_of, numbers_at, placement_of, place_of, admitted_reply}
+use Rattle.history_reading.specs.Replies.{changed_reply, map_at, map_reply, skipped_reply, flow_reply, u64_if}
+use Rattle.history_reading.specs.Replies.{refused_reply, reply_of, entry_of}
 use Rattle.history_reading.specs.Recorded.{entries_of, history_of}
 use Rattle.history_writing.specs.Fits.{ConfigFits, MapFits, ValueFits, ReplyFits, EntryFits}
 use Rattle.laws.proofs.ReadBack.{below-fits, call_of-data, config_of-data}
@@ -62,10 +62,13 @@ refused_kind n (Some slot) = refl
 
 -- a reply is read again
 reply_of-data : (reply : Reply) → ReplyFits reply → reply_of (reply_data reply) ≡ Some reply
-unfolding reply_of admitted_reply placed_reply skipped_reply flow_reply numbers_at u64_at number_at text_at reply_data
-    plain_data placed_data map_data counts
+unfolding reply_of placement_of place_of admitted_reply changed_reply skipped_reply flow_reply numbers_at u64_at
+    number_at text_at reply_data plain_data placed_data map_data counts
 reply_of-data (Admitted None) fits = refl
 reply_of-data (Admitted (Some p)) fits =
+    rw (below-fits (2 ^ 64) p.reference fits.0) (rw (numbers_of-counts (2 ^ 16) p.starts fits.1) refl)
+reply_of-data (Changed None) fits = refl
+reply_of-data (Changed (Some p)) fits =
     rw (below-fits (2 ^ 64) p.reference fits.0) (rw (numbers_of-counts (2 ^ 16) p.starts fits.1) refl)
 reply_of-data Removed fits = refl
 reply_of-data Taken fits = refl

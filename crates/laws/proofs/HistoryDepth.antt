@@ -16,10 +16,10 @@ use Rattle.sched_calls.specs.declared.spec.FlowSpec.TheVariants.{Unsolicited, Po
 use Rattle.sched_calls.specs.declared.call.Call.{Call}
 use Rattle.sched_calls.specs.declared.opportunity.Usage.TheVariants.{Initial, Station}
 use Rattle.sched_calls.specs.declared.call.Call.TheVariants.{Admit, Remove, Ask, Heard, Build, Skip, Status}
-use Rattle.sched_calls.specs.declared.call.Call.TheVariants.{Reserve, Header}
+use Rattle.sched_calls.specs.declared.call.Call.TheVariants.{Reserve, Header, Replace, Change, Rest, Wake}
 use Rattle.sched_calls.specs.declared.reply.Reply.{Reply}
 use Rattle.sched_calls.specs.declared.reply.Reply.TheVariants.{Admitted, Removed, Taken, Noted, Built, Skipped, Flow}
-use Rattle.sched_calls.specs.declared.reply.Reply.TheVariants.{Refused, Reserved}
+use Rattle.sched_calls.specs.declared.reply.Reply.TheVariants.{Refused, Reserved, Changed}
 use Rattle.sched_calls.specs.declared.reply.Entry.{Entry}
 use Rattle.history_writing.specs.Json.{count, counts, flow_data, call_data, plain_data, placed_data, map_data}
 use Rattle.history_writing.specs.Json.{refused_data}
@@ -56,6 +56,11 @@ depth-call (Status sid) = omega arith
 depth-call (Reserve Initial slots) = omega arith
 depth-call (Reserve (Station sid) slots) = omega arith
 depth-call (Header header) = omega arith
+depth-call (Replace receiver sid (Bytes bytes) heard) = omega arith
+depth-call (Replace receiver sid (Slots slots) heard) = omega arith
+depth-call (Change sid spec) = let e = depth-flow spec in omega (arith, e)
+depth-call (Rest sid) = omega arith
+depth-call (Wake sid) = omega arith
 
 depth-refused : (n : ℕ) (value : Option ℕ) → depth (refused_data n value) ≤ 2
 unfolding refused_data
@@ -66,6 +71,8 @@ depth-reply : (reply : Reply) → depth (reply_data reply) ≤ 2
 unfolding reply_data plain_data placed_data map_data
 depth-reply (Admitted None) = omega arith
 depth-reply (Admitted (Some p)) = let e = depth-counts p.starts in omega (arith, e)
+depth-reply (Changed None) = omega arith
+depth-reply (Changed (Some p)) = let e = depth-counts p.starts in omega (arith, e)
 depth-reply Removed = omega arith
 depth-reply Taken = omega arith
 depth-reply Noted = omega arith

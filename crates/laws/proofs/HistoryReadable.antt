@@ -13,17 +13,18 @@ use Rattle.hex.proofs.HexLemmas.{IsAscii-encode_with}
 use Rattle.json.proofs.Printed.Utf8.{are_ascii}
 use Rattle.serde_json.specs.View.{items_of}
 use Rattle.map_codec.specs.WireMap.{spelling}
+use Rattle.sched_calls.specs.declared.placement.Placement.{Placement}
 use Rattle.sched_calls.specs.declared.frame_map.FrameMap.{FrameMap}
 use Rattle.minislots.specs.declared.config.Config.{Config}
 use Rattle.sched_calls.specs.declared.reply.Reply.{Reply}
 use Rattle.sched_calls.specs.declared.reply.Reply.TheVariants.{Admitted, Removed, Taken, Noted, Built, Skipped, Flow}
-use Rattle.sched_calls.specs.declared.reply.Reply.TheVariants.{Refused, Reserved}
+use Rattle.sched_calls.specs.declared.reply.Reply.TheVariants.{Refused, Reserved, Changed}
 use Rattle.sched_calls.specs.declared.reply.Entry.{Entry}
 use Rattle.history_writing.specs.Json.{counts, plain_data, placed_data, map_data, refused_data}
 use Rattle.history_writing.specs.Json.{reply_data}
 use Rattle.sched_lines.specs.Line.{refusal_number, refusal_value}
 use Rattle.history_writing.specs.HistoryText.{entry_data, entries_data, history_data}
-use Rattle.history_writing.specs.Fits.{ConfigFits, MapFits, ValueFits, ReplyFits, EntryFits}
+use Rattle.history_writing.specs.Fits.{ConfigFits, PlacementFits, MapFits, ValueFits, ReplyFits, EntryFits}
 use Rattle.laws.proofs.Readable.{IsReadable, AreReadable}
 use Rattle.laws.proofs.RefusalNumbers.{number_fits}
 use Rattle.laws.proofs.CallReadable.{of_word, name, counts_readable, call_readable}
@@ -65,21 +66,18 @@ refused_readable n None number value = (refl, (refl, name (codes "refused") refl
 refused_readable n (Some slot) number value =
     (refl, (refl, name (codes "refused") refl, (refl, number, (refl, value, tt))))
 
+placed_readable : (kind : List ℕ) (p : Placement) → are_ascii kind ≡ true → PlacementFits (Some p)
+    → IsReadable (placed_data kind p)
+unfolding placed_data counts
+placed_readable kind p small fits =
+    (refl, (refl, name kind small, (refl, fits.0, (refl, counts_readable (2 ^ 16) p.starts (omega arith) fits.1, tt))))
+
 reply_readable : (reply : Reply) → ReplyFits reply → IsReadable (reply_data reply)
-unfolding reply_data plain_data placed_data counts
+unfolding reply_data plain_data
 reply_readable (Admitted None) fits = (refl, (refl, name (codes "admitted") refl, tt))
-reply_readable (Admitted (Some p)) fits = (
-  refl,
-  (
-    refl,
-    name (codes "admitted") refl,
-    (
-      refl,
-      fits.0,
-      (refl, counts_readable (2 ^ 16) p.starts (omega arith) fits.1, tt),
-    ),
-  ),
-)
+reply_readable (Admitted (Some p)) fits = placed_readable (codes "admitted") p refl fits
+reply_readable (Changed None) fits = (refl, (refl, name (codes "changed") refl, tt))
+reply_readable (Changed (Some p)) fits = placed_readable (codes "changed") p refl fits
 reply_readable Removed fits = (refl, (refl, name (codes "removed") refl, tt))
 reply_readable Taken fits = (refl, (refl, name (codes "taken") refl, tt))
 reply_readable Noted fits = (refl, (refl, name (codes "noted") refl, tt))

@@ -1,8 +1,8 @@
 -- How many flows wait since before a minislot, after one entry more.
-use Rattle.std.proofs.Common.{◌≡◌, ℕ, ◌+◌, ◌<◌, ◌≤◌, Bool, true, false, ◌==◌, cond}
+use Rattle.std.proofs.Common.{◌≡◌, ℕ, ◌+◌, ◌<◌, ◌≤◌, Bool, true, false, ◌==◌, if◌then◌else◌, cond}
 use Rattle.std.proofs.Common.{List, [], ◌∷◌, ◌++◌, Option, None, Some, refl, sym, ◌∙◌, subst, append-nil, arith}
 use Rattle.std.specs.List.{count_by, filter_map, cons_option}
-use Rattle.std.specs.Option.{option_map}
+use Rattle.std.specs.Option.{option_map, option_map_or}
 use Rattle.std.proofs.lemmas.Bool.Decides.{nat_tests}
 use Rattle.std.proofs.lemmas.List.Sums.{sum_by-append, sum_by-cons}
 use Rattle.minislots.specs.declared.config.Config.{Config}
@@ -17,12 +17,13 @@ use Rattle.sched_calls.specs.declared.call.Call.TheVariants as calls
 use Rattle.sched_calls.specs.declared.reply.Reply.{Reply}
 use Rattle.sched_calls.specs.declared.reply.Reply.TheVariants as replies
 use Rattle.sched_calls.specs.declared.reply.Entry.{Entry}
-use Rattle.sched_history.specs.Life.{Turn, Begins, Ends, turn_by, Life, life_of, asked_by, grants_by, batches_by}
+use Rattle.sched_history.specs.Life.{Turn, Begins, Ends, turn_by, Life, life_of, added_by, replaced_by, grants_by}
+use Rattle.sched_history.specs.Life.{batches_by}
 use Rattle.sched_history.specs.Life.{flow_in_life, sids, flows_of}
 use Rattle.sched_history.proofs.lives.LivesAfter.{life_of-begins, life_of-ends}
 use Rattle.sched_history.proofs.lives.Finding.{flow_at}
 use Rattle.sched_history.proofs.lives.FlowsAfter.{grown_by, flow_at-stays}
-use Rattle.laws.proofs.Since.{since-rises, waited}
+use Rattle.laws.proofs.Since.{since-rises, alone-since, waited}
 use Rattle.laws.proofs.WaitingLives.{HaveBatches}
 use Rattle.laws.proofs.HeldBack.{late, late-parts, late-is}
 
@@ -76,6 +77,7 @@ module _ {Y : Type 0} (p : Y → Bool) where
 -- a request that an entry accepts was heard at or after this minislot
 abbrev pub IsHeardFrom : ℕ → Call → Reply → Type 0
 IsHeardFrom slot (calls.Ask receiver sid amount heard) replies.Taken = slot ≤ heard
+IsHeardFrom slot (calls.Replace receiver sid amount heard) replies.Taken = slot ≤ heard
 IsHeardFrom slot call reply = Unit {0}
 
 waits-by : (f : LiveFlow) → granted f < f.asked → waits f ≡ true
@@ -85,37 +87,59 @@ waits-parts : (f : LiveFlow) → waits f ≡ true → granted f < f.asked
 waits-parts f waiting = grind (arith, nat_tests, waiting)
 
 module _ (c : Config) (slot : ℕ) (f : LiveFlow) (ends : f.batches.end ≤ f.asked) where
-  -- a flow with these bytes asked, batches and grants more
+  -- a flow with these bytes asked, these batches and grants more
   abbrev grown : ℕ → Batches → List Grant → LiveFlow
-  grown asked batches grants = record f { asked = f.asked + asked; batches = batches; grants = f.grants ++ grants }
+  grown asked batches grants = record f { asked = asked; batches = batches; grants = f.grants ++ grants }
 
-  late-granted : (grants : List Grant) → late slot (grown 0 f.batches grants) ≡ true → late slot f ≡ true
+  late-granted : (grants : List Grant) → late slot (grown (f.asked + 0) f.batches grants) ≡ true → late slot f ≡ true
   late-granted grants is =
-      let g : LiveFlow = grown 0 f.batches grants in
+      let g : LiveFlow = grown (f.asked + 0) f.batches grants in
       let parts = late-parts slot g is in
       let more = sum_by-append (λ (x : Grant). x.bytes) f.grants grants in
       late-is slot f (waits-by f (omega (arith, waits-parts g parts.0, more)))
       (omega (arith, parts.1, since-rises f.batches (granted f) (granted g) (omega (arith, more))))
 
   late-cond : (same : Bool) (bytes heard : ℕ) → slot ≤ heard
-      → late slot (grown (cond same bytes 0) (cond same (with_request f.batches f.asked (granted f) bytes heard)
-      f.batches) []) ≡ true
+      → late slot (grown (f.asked + cond same bytes 0)
+      (cond same (with_request f.batches f.asked (granted f) bytes heard) f.batches) []) ≡ true
       → late slot f ≡ true
   late-cond true bytes heard le is =
       let now : Batches = with_request f.batches f.asked (granted f) bytes heard in
-      let parts = late-parts slot (grown bytes now []) is in
+      let parts = late-parts slot (grown (f.asked + bytes) now []) is in
       let none : f.grants ++ [] ≡ f.grants = append-nil f.grants in
       let before = waited f.batches f.asked (granted f) bytes heard ends slot le
       (subst (λ gs. since_of now (bytes_of gs) < slot) none parts.1) in
       late-is slot f (waits-by f before.0) before.1
   late-cond false bytes heard le is = late-granted [] is
 
+  -- one whose requests were replaced waits since the minislot of the one that did
+  late-replaced : (same : Bool) (bytes heard : ℕ) → slot ≤ heard
+      → late slot (grown (option_map_or (λ n. granted f + n) (if same then Some bytes else None) (f.asked + 0))
+      (cond same (with_request f.batches (granted f) (granted f) bytes heard) f.batches) []) ≡ true
+      → late slot f ≡ true
+  late-replaced true bytes heard le is =
+      let now : Batches = with_request f.batches (granted f) (granted f) bytes heard in
+      let parts = late-parts slot (grown (granted f + bytes) now []) is in
+      let test : (granted f == granted f) ≡ true = grind (arith, nat_tests) in
+      let fresh : now ≡ record { end = granted f + bytes; first = heard; second = None } = rw test refl in
+      let all : ℕ = bytes_of (f.grants ++ []) in
+      absurd (omega (
+        arith,
+        le,
+        alone-since (granted f + bytes) heard all,
+        subst (λ k. since_of k all < slot) fresh parts.1,
+      ))
+  late-replaced false bytes heard le is = late-granted [] is
+
   late-by : (call : Call) (reply : Reply) → IsHeardFrom slot call reply
-      → late slot (grown (asked_by c f.sid call reply) (batches_by c f.sid call reply f.batches f.asked (granted f))
+      → late slot (grown (option_map_or (λ n. granted f + n) (replaced_by c f.sid call reply)
+      (f.asked + added_by c f.sid call reply)) (batches_by c f.sid call reply f.batches f.asked (granted f))
       (grants_by f.sid reply)) ≡ true
       → late slot f ≡ true
   late-by (calls.Ask receiver other amount heard) replies.Taken le is =
       late-cond (other == f.sid) (requested c amount) heard le is
+  late-by (calls.Replace receiver other amount heard) replies.Taken le is =
+      late-replaced (other == f.sid) (requested c amount) heard le is
   late-by call reply le is = late-granted (grants_by f.sid reply) is
 
 module _ (c : Config) (slot : ℕ) (h : List Entry) (e : Entry) (have : HaveBatches c h)

@@ -2,15 +2,19 @@
 use Rattle.std.proofs.Common.{◌≡◌, ℕ, ◌+◌, ◌*◌, ◌^◌, ◌<◌, ◌≤◌, Bool, true, false, cond, if◌then◌else◌, find, ◌==◌}
 use Rattle.std.proofs.Common.{List, [], ◌∷◌, length, Option, None, Some, refl, sym, ap, ◌∙◌, subst, inl, inr, arith}
 use Rattle.std.specs.List.{AllByRecursion}
-use Rattle.std.specs.Option.{option_map, MatchOption}
+use Rattle.std.specs.Option.{option_map, IsSomeAnd, MatchOption}
 use Rattle.minislots.specs.declared.config.Config.{Config}
 use Rattle.minislots.specs.Config.{IsLawful}
 use Rattle.minislots.proofs.Bounds.{bounds_of}
 use Rattle.sched_calls.specs.declared.spec.FlowSpec.{FlowSpec}
 use Rattle.sched_calls.specs.declared.spec.FlowSpec.TheVariants.{Unsolicited, Polled, BestEffort}
-use Rattle.sched_calls.specs.FlowSpec.{takes_requests}
+use Rattle.sched_calls.specs.FlowSpec.{has_place_of, takes_requests}
 use Rattle.flow_book.specs.Flows.{LiveFlow, granted, outstanding}
+use Rattle.sched_calls.specs.declared.placement.Placement.{Placement}
+use Rattle.periodic.specs.Placement.{Placed, IsPlacement, IsToldFrom}
+use Rattle.periodic.specs.Table.{without}
 use Rattle.periodic.proofs.Parameters.{HasPlaces, places_of}
+use Rattle.periodic.proofs.Told.{alike-placed, placement-told}
 use Rattle.sched_calls.specs.declared.call.Call.{Call}
 use Rattle.sched_calls.specs.declared.call.Call.TheVariants as calls
 use Rattle.sched_calls.specs.declared.reply.Refusal.{Refusal}
@@ -18,18 +22,20 @@ use Rattle.sched_calls.specs.declared.reply.Reply.{Reply}
 use Rattle.sched_calls.specs.declared.reply.Reply.TheVariants as replies
 use Rattle.sched_calls.specs.declared.reply.Entry.{Entry}
 use Rattle.sched_calls.specs.declared.reply.TheConstants.{MAX_WHOLE_HISTORY}
-use Rattle.sched_history.specs.Life.{Life, life_of, flow_in_life, flows_of, table_of}
+use Rattle.sched_history.specs.Life.{Admission, Life, life_of, given_in, flow_in_life, flows_of, table_of}
 use Rattle.sched_history.specs.Time.{next_after, progress_of, IsFirstStart}
 use Rattle.sched_history.specs.Refusal.{refusal_of, most_bytes}
-use Rattle.sched_history.specs.History.{PlacesOrRefuses, AnswersAdmit, flow_status, Answers, IsStep, IsLegal}
+use Rattle.sched_history.specs.History.{PlacesOrRefuses, AnswersAdmit, PlacesAnew, AnswersChange, flow_status, Answers}
+use Rattle.sched_history.specs.History.{IsStep, IsLegal}
 use Rattle.sched_history.specs.Facts.{IsWithinAsked}
 use Rattle.sched_history.proofs.lives.Finding.{good_sid, flow_of-flows_of}
 use Rattle.sched_history.proofs.facts.Orderly.{next_orderly}
 use Rattle.sched_history.proofs.facts.SoundLives.{within_asked}
 use Rattle.sched_history.proofs.steps.LegalBounds.{next_after-most, flows_of-asked}
-use Rattle.sched_history.proofs.steps.Passed.{passed-admit, passed-status, passed-skip}
+use Rattle.sched_history.proofs.placements.PlacedLives.{WasPlacedIn, lives_placed}
+use Rattle.sched_history.proofs.steps.Passed.{passed-admit, passed-change, passed-status, passed-skip}
 use Rattle.sched_history.proofs.time.FirstStarts.{first_start-near}
-use Rattle.history_writing.specs.Fits.{CallFits, ConfigFits, ReplyFits}
+use Rattle.history_writing.specs.Fits.{CallFits, ConfigFits, PlacementFits, ReplyFits}
 use Rattle.laws.proofs.EntryRoom.{IsShort}
 use Rattle.laws.proofs.Times.{progress_of-most}
 use Rattle.laws.proofs.Refusals.{RefusalFits, refusal_fits}
@@ -61,18 +67,70 @@ module _ (c : Config) (lawful : IsLawful c) (config_fits : ConfigFits c) (h : Li
   progress-small : (receiver : ℕ) → progress_of c receiver h < 2 ^ 64
   progress-small receiver = omega (arith, next_after-most c lawful h legal, progress_of-most c h legal receiver)
 
+  -- a placement that was lawful beside some flows, from the next frame on
+  place-good : (table : List Placed) (spec : FlowSpec) (p : Placement) → HasPlaces c spec
+      → IsPlacement c table spec (next_after c h) p → PlacementFits (Some p) × (length p.starts ≤ 512)
+  place-good table spec p places lawful_place =
+      let bounds = bounds_of c lawful in
+      let near = reference-near c bounds table spec places (next_after c h) p lawful_place in (
+        (
+          omega (arith, near, next_after-most c lawful h legal),
+          starts-small c bounds table spec places (next_after c h) p lawful_place,
+        ),
+        starts-few c bounds table spec places (next_after c h) p lawful_place,
+      )
+
   placed-good : (spec : FlowSpec) (reply : Reply) → HasPlaces c spec → PlacesOrRefuses c h spec reply → IsGood reply
   placed-good spec reply places (inl (p, lawful_place, is)) =
-      let bounds = bounds_of c lawful in
-      let near = reference-near c bounds (table_of h) spec places (next_after c h) p lawful_place in
-      subst IsGood (sym is) (record {
-        fits = (
-          omega (arith, near, next_after-most c lawful h legal),
-          starts-small c bounds (table_of h) spec places (next_after c h) p lawful_place,
-        );
-        short = starts-few c bounds (table_of h) spec places (next_after c h) p lawful_place;
-      })
+      let good = place-good (table_of h) spec p places lawful_place in
+      subst IsGood (sym is) (record { fits = good.0; short = good.1 })
   placed-good spec reply places (inr (never, is)) = subst IsGood (sym is) (record { fits = tt; short = tt })
+
+  -- one of a change
+  moved-good : (table : List Placed) (spec : FlowSpec) (p : Placement) (reply : Reply) → HasPlaces c spec
+      → IsPlacement c table spec (next_after c h) p → reply ≡ replies.Changed (Some p) → IsGood reply
+  moved-good table spec p reply places lawful_place is =
+      let good = place-good table spec p places lawful_place in
+      subst IsGood (sym is) (record { fits = good.0; short = good.1 })
+
+  anew-good : (sid : ℕ) (spec : FlowSpec) (reply : Reply) → HasPlaces c spec → PlacesAnew c h sid spec reply
+      → IsGood reply
+  anew-good sid spec reply places (inl (p, lawful_place, is)) =
+      moved-good (without sid (table_of h)) spec p reply places lawful_place is
+  anew-good sid spec reply places (inr (never, is)) = subst IsGood (sym is) (record { fits = tt; short = tt })
+
+  -- a placement that is kept was lawful when it was made
+  kept-placed : (given : Admission) (spec : FlowSpec) (p : Placement) (stood : Option Placement)
+      → given.placement ≡ stood → WasPlacedIn c (next_after c h) given → has_place_of given.spec spec ≡ true
+      → IsSomeAnd stood (λ stands. IsToldFrom c spec (next_after c h) stands p)
+      → (table : List Placed) × IsPlacement c table spec (next_after c h) p
+  kept-placed given spec p None at was same told = absurd told
+  kept-placed given spec p (Some stands) at was same told =
+      let lay = was stands at in (
+        lay.table,
+        placement-told c given.spec spec stands p (next_after c h) (alike-placed c given.spec spec same) told
+            lay.table lay.since lay.lawful,
+      )
+
+  given-good : (sid : ℕ) (given : Admission) (spec : FlowSpec) (reply : Reply)
+      → refusal_of c h (calls.Change sid spec) ≡ None → WasPlacedIn c (next_after c h) given
+      → AnswersChange c h sid given spec reply → IsGood reply
+  given-good sid given spec reply none was (inl (same, (p, told, is))) =
+      let periodic = (alike-placed c given.spec spec same).periodic in
+      let places = places_of c spec lawful periodic (passed-change c h sid spec none).no_fault in
+      let kept = kept-placed given spec p given.placement refl was same told in
+      moved-good kept.0 spec p reply places kept.1 is
+  given-good sid given spec reply none was (inr (inl (other, periodic, answers))) =
+      anew-good sid spec reply (places_of c spec lawful periodic (passed-change c h sid spec none).no_fault) answers
+  given-good sid given spec reply none was (inr (inr (aperiodic, is))) =
+      subst IsGood (sym is) (record { fits = tt; short = tt })
+
+  change-good : (sid : ℕ) (spec : FlowSpec) (life : Option Life) (reply : Reply) → life_of sid h ≡ life
+      → refusal_of c h (calls.Change sid spec) ≡ None
+      → MatchOption life ⊥ (λ l. AnswersChange c h sid (given_in sid l) spec reply) → IsGood reply
+  change-good sid spec None reply is none answers = absurd answers
+  change-good sid spec (Some life) reply is none answers =
+      given-good sid (given_in sid life) spec reply none (lives_placed c h legal sid life is) answers
 
   admit-good : (sid : ℕ) (spec : FlowSpec) (reply : Reply) → refusal_of c h (calls.Admit sid spec) ≡ None
       → AnswersAdmit c h spec reply → IsGood reply
@@ -137,6 +195,13 @@ module _ (c : Config) (lawful : IsLawful c) (config_fits : ConfigFits c) (h : Li
   answer-good (calls.Reserve usage slots) reply none answers =
       plain-good reply replies.Reserved answers (record { fits = tt; short = tt })
   answer-good (calls.Header header) reply none answers =
+      plain-good reply replies.Noted answers (record { fits = tt; short = tt })
+  answer-good (calls.Replace receiver sid amount heard) reply none answers =
+      plain-good reply replies.Taken answers (record { fits = tt; short = tt })
+  answer-good (calls.Change sid spec) reply none answers = change-good sid spec (life_of sid h) reply refl none answers
+  answer-good (calls.Rest sid) reply none answers =
+      plain-good reply replies.Noted answers (record { fits = tt; short = tt })
+  answer-good (calls.Wake sid) reply none answers =
       plain-good reply replies.Noted answers (record { fits = tt; short = tt })
 
   refused-good : (refusal : Refusal) → RefusalFits refusal → IsGood (replies.Refused refusal)

@@ -29,7 +29,7 @@ use Rattle.sched_history.specs.Latest.{Found, latest}
 use Rattle.sched_history.specs.Time.{next_after, ack_after}
 use Rattle.sched_history.specs.Reserves.{header_by, header_after}
 use Rattle.sched_history.specs.History.{IsLegal, IsNextMap, demand_after}
-use Rattle.sched_history.proofs.facts.Orderly.{next_orderly, flows_of-in_range, spots_in-in_range}
+use Rattle.sched_history.proofs.facts.Orderly.{next_orderly, flows_of-in_range, due_in-in_range}
 use Rattle.sched_history.proofs.reserves.GoodReserves.{HaveStationSids-legal}
 use Rattle.sched_history.proofs.steps.LegalBounds.{next_after-most}
 use Rattle.history_writing.specs.Fits.{CallFits, ConfigFits, MapFits}
@@ -148,7 +148,7 @@ next_fits c h m lawful config_fits legal fits next =
     let good : AreEncodable m.wire.elements =
     subst AreEncodable (sym elements)
     (elements_of-encodable c d next.0 (omega (arith, bounds.frame_most)) (flows_of-in_range c h)
-    (spots_in-in_range c (next_after c h / c.frame) h) (HaveStationSids-legal c h legal) next.1.each next.1.whole) in
+    (due_in-in_range c (next_after c h / c.frame) h) (HaveStationSids-legal c h legal) next.1.each next.1.whole) in
     record {
       start = omega (arith, ap (λ (m : FrameMap). m.start) next.2, next_after-most c lawful h legal);
       ack = omega (

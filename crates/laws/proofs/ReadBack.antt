@@ -20,13 +20,13 @@ use Rattle.sched_calls.specs.declared.spec.FlowSpec.TheVariants.{Unsolicited, Po
 use Rattle.sched_calls.specs.declared.call.Call.{Call}
 use Rattle.sched_calls.specs.declared.opportunity.Usage.TheVariants.{Initial, Station}
 use Rattle.sched_calls.specs.declared.call.Call.TheVariants.{Admit, Remove, Ask, Heard, Build, Skip, Status}
-use Rattle.sched_calls.specs.declared.call.Call.TheVariants.{Reserve, Header}
+use Rattle.sched_calls.specs.declared.call.Call.TheVariants.{Reserve, Header, Replace, Change, Rest, Wake}
 use Rattle.json_fields.specs.Fields.{below, number_at, u8_at, u16_at, u32_at, u64_at, text_at, slots_of, sizes_of}
 use Rattle.json_fields.specs.Fields.{counts_of, windows_of, u8_or, profile_of, profile_at, descriptors_of, uniform_of}
 use Rattle.json_fields.specs.Fields.{bursts_of, u32_or, limits_of, config_of}
 use Rattle.call_reading.specs.Calls.{unsolicited_of, polled_of, best_effort_of, flow_of, admit_call, remove_call}
 use Rattle.call_reading.specs.Calls.{amount_of, ask_call, heard_call, build_call, skip_call, status_call, usage_of}
-use Rattle.call_reading.specs.Calls.{reserve_call, header_call, call_of}
+use Rattle.call_reading.specs.Calls.{reserve_call, header_call, replace_call, change_call, rest_call, wake_call, call_of}
 use Rattle.script_reading.specs.Script.{calls_of, script_of}
 use Rattle.history_writing.specs.Json.{count, flow_data, call_data}
 use Rattle.history_writing.specs.HistoryText.{is_same_profile, profile_data, unsolicited_member, descriptors_data}
@@ -57,7 +57,8 @@ flow_of-data (BestEffort priority rate burst) fits =
 -- a call is read back
 pub call_of-data : (call : Call) → CallFits call → call_of (call_data call) ≡ Some call
 unfolding call_of admit_call remove_call amount_of ask_call heard_call build_call skip_call status_call usage_of
-    reserve_call header_call u8_at u16_at u32_at u64_at number_at text_at call_data
+    reserve_call header_call replace_call change_call rest_call wake_call u8_at u16_at u32_at u64_at number_at text_at
+    call_data
 call_of-data (Admit sid spec) fits = rw (below-fits (2 ^ 16) sid fits.0) (
     rw (flow_of-data spec fits.1) refl)
 call_of-data (Remove sid) fits = rw (below-fits (2 ^ 16) sid fits) refl
@@ -81,6 +82,18 @@ call_of-data (Header header) fits =
     rw (below-fits (2 ^ 8) header.ucd_count fits.0) (
     rw (below-fits (2 ^ 8) header.ranging_start fits.1) (rw (below-fits (2 ^ 8) header.ranging_end fits.2)
     (rw (below-fits (2 ^ 8) header.data_start fits.3) (rw (below-fits (2 ^ 8) header.data_end fits.4) refl))))
+call_of-data (Replace receiver sid (Bytes bytes) heard) fits =
+    rw (below-fits (2 ^ 8) receiver fits.0) (
+    rw (below-fits (2 ^ 16) sid fits.1) (rw (below-fits (2 ^ 32) bytes fits.2)
+    (rw (below-fits (2 ^ 64) heard fits.3) refl)))
+call_of-data (Replace receiver sid (Slots slots) heard) fits =
+    rw (below-fits (2 ^ 8) receiver fits.0) (
+    rw (below-fits (2 ^ 16) sid fits.1) (rw (below-fits (2 ^ 32) slots fits.2)
+    (rw (below-fits (2 ^ 64) heard fits.3) refl)))
+call_of-data (Change sid spec) fits = rw (below-fits (2 ^ 16) sid fits.0) (
+    rw (flow_of-data spec fits.1) refl)
+call_of-data (Rest sid) fits = rw (below-fits (2 ^ 16) sid fits) refl
+call_of-data (Wake sid) fits = rw (below-fits (2 ^ 16) sid fits) refl
 
 -- burst descriptors with the same numbers are the same
 same_profile : (p q : Profile) → is_same_profile p q ≡ true → p ≡ q

@@ -43,7 +43,7 @@ flows_have slot (Some f) number = (ap Some (number f refl), slots_have slot)
 
 all_have : (value : Option ℕ) → AllByRecursion (HasValue value) (refusals_of value)
 all_have None =
-    (refl, (refl, (refl, (refl, (refl, (refl, (refl, (refl, (refl, (refl, (refl, (refl, (refl, tt)))))))))))))
+    (refl, (refl, (refl, (refl, (refl, (refl, (refl, (refl, (refl, (refl, (refl, (refl, (refl, (refl, (refl, (refl, tt))))))))))))))))
 all_have (Some slot) = flows_have slot (fault_with slot) (fault_number-found slot)
 
 named : (n : ℕ) (value : Option ℕ) (refusal : Refusal) → refusal_with n value ≡ Some refusal

@@ -9,6 +9,7 @@ use Rattle.sched_calls.specs.declared.reply.Refusal.TheVariants.{BadSid, SidLive
 use Rattle.sched_calls.specs.declared.reply.Refusal.TheVariants.{NoPlace, NoFlow, NotAsking, BadReceiver, BadBytes}
 use Rattle.sched_calls.specs.declared.reply.Refusal.TheVariants.{Acked, Ahead, Backwards, BadClock, TooEarly, Late}
 use Rattle.sched_calls.specs.declared.reply.Refusal.TheVariants.{NotLate, BadLength, ReservesFull, BadBackoff}
+use Rattle.sched_calls.specs.declared.reply.Refusal.TheVariants.{OtherKind, NotUnsolicited, TooShort}
 use Rattle.sched_lines.specs.Line.{refusal_number, refusal_value}
 use Rattle.history_reading.specs.Refusals.{fault_with, slot_refusals, flow_refusals, refusal_with}
 
@@ -49,6 +50,9 @@ refusal_with-number (NotLate slot) = past_flow (fault_with slot) 17 (slot_refusa
 refusal_with-number BadLength = refl
 refusal_with-number ReservesFull = refl
 refusal_with-number BadBackoff = refl
+refusal_with-number OtherKind = refl
+refusal_with-number NotUnsolicited = refl
+refusal_with-number TooShort = refl
 
 -- the number of a refusal is small
 pub number_fits : (refusal : Refusal) → refusal_number refusal < 2 ^ 64
@@ -72,3 +76,6 @@ number_fits (NotLate slot) = lit< tt
 number_fits BadLength = lit< tt
 number_fits ReservesFull = lit< tt
 number_fits BadBackoff = lit< tt
+number_fits OtherKind = lit< tt
+number_fits NotUnsolicited = lit< tt
+number_fits TooShort = lit< tt

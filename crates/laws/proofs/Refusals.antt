@@ -6,7 +6,7 @@ use Rattle.minislots.specs.declared.config.Config.{Config}
 use Rattle.sched_calls.specs.declared.spec.FlowFault.{FlowFault}
 use Rattle.sched_calls.specs.declared.spec.FlowFault.TheVariants.{Size, IntervalNotWhole, IntervalNotFrames}
 use Rattle.sched_calls.specs.declared.spec.FlowFault.TheVariants.{IntervalNotInCycle, Priority, Burst, Grants}
-use Rattle.sched_calls.specs.FlowSpec.{is_periodic, grants_of, first_fault}
+use Rattle.sched_calls.specs.FlowSpec.{is_periodic, is_kind_of, grants_of, first_fault}
 use Rattle.sched_calls.specs.declared.call.TheConstants.{MAX_RESERVES}
 use Rattle.sched_calls.specs.declared.call.Call.{Call}
 use Rattle.sched_calls.specs.declared.call.Call.TheVariants as calls
@@ -15,12 +15,14 @@ use Rattle.sched_calls.specs.declared.reply.Refusal.TheVariants.{BadSid, SidLive
 use Rattle.sched_calls.specs.declared.reply.Refusal.TheVariants.{NoFlow, NotAsking, BadReceiver, BadBytes}
 use Rattle.sched_calls.specs.declared.reply.Refusal.TheVariants.{Acked, Ahead, Backwards, BadClock, TooEarly, Late}
 use Rattle.sched_calls.specs.declared.reply.Refusal.TheVariants.{NotLate, BadLength, ReservesFull, BadBackoff}
+use Rattle.sched_calls.specs.declared.reply.Refusal.TheVariants.{OtherKind, NotUnsolicited, TooShort}
 use Rattle.sched_calls.specs.declared.reply.Entry.{Entry}
 use Rattle.sched_history.specs.Life.{flows_of}
 use Rattle.sched_history.specs.Time.{next_after, progress_of}
 use Rattle.sched_history.specs.Reserves.{reserves_of}
 use Rattle.sched_history.specs.Refusal.{refused_if, refusal_of, is_bad_amount, most_ahead, last_clock, bad_sid}
-use Rattle.sched_history.specs.Refusal.{is_live, is_silent, periodic_grants, is_to_bad_sid, is_wide}
+use Rattle.sched_history.specs.Refusal.{is_live, is_silent, has_live, is_unsolicited, is_short_of_poll, is_great_amount}
+use Rattle.sched_history.specs.Refusal.{periodic_grants, other_grants, is_to_bad_sid, is_wide}
 use Rattle.sched_lines.specs.Line.{fault_number, refusal_value}
 use Rattle.history_writing.specs.Fits.{ValueFits}
 
@@ -69,6 +71,16 @@ module _ (c : Config) (h : List Entry) (next-small : next_after c h < 2 ^ 64)
       refused (bad_sid sid) BadSid _ refusal is tt (λ is.
       refused (not (is_live sid h)) NoFlow rest refusal is tt later)
 
+  -- or a minislot whose requests came too late, or are not described yet
+  untimely : (receiver heard : ℕ) (refusal : Refusal)
+      → option_or (refused_if (nat_lt heard (progress_of c receiver h)) (Acked (progress_of c receiver h)))
+      (option_or (refused_if (nat_le (next_after c h) heard) (Ahead (next_after c h))) None) ≡ Some refusal
+      → RefusalFits refusal
+  untimely receiver heard refusal is =
+      let progress = progress_of c receiver h in
+      refused (nat_lt heard progress) (Acked progress) _ refusal is (progress-small receiver) (λ is.
+      refused (nat_le (next_after c h) heard) (Ahead (next_after c h)) _ refusal is next-small (no_more refusal))
+
   -- the value of each refusal fits
   pub refusal_fits : (call : Call) (refusal : Refusal) → refusal_of c h call ≡ Some refusal → RefusalFits refusal
   refusal_fits (calls.Admit sid spec) refusal is =
@@ -80,13 +92,28 @@ module _ (c : Config) (h : List Entry) (next-small : next_after c h < 2 ^ 64)
       refusal is tt (no_more refusal)))))
   refusal_fits (calls.Remove sid) refusal is = unknown sid _ refusal is (no_more refusal)
   refusal_fits (calls.Ask receiver sid amount heard) refusal is =
-      let progress = progress_of c receiver h in
       unknown sid _ refusal is (λ is.
       refused (is_silent sid h) NotAsking _ refusal is tt (λ is.
       refused (nat_le c.receivers receiver) BadReceiver _ refusal is tt (λ is.
-      refused (is_bad_amount c amount) BadBytes _ refusal is tt (λ is.
-      refused (nat_lt heard progress) (Acked progress) _ refusal is (progress-small receiver) (λ is.
-      refused (nat_le (next_after c h) heard) (Ahead (next_after c h)) _ refusal is next-small (no_more refusal))))))
+      refused (is_bad_amount c amount) BadBytes _ refusal is tt (untimely receiver heard refusal))))
+  refusal_fits (calls.Replace receiver sid amount heard) refusal is =
+      unknown sid _ refusal is (λ is.
+      refused (is_silent sid h) NotAsking _ refusal is tt (λ is.
+      refused (nat_le c.receivers receiver) BadReceiver _ refusal is tt (λ is.
+      refused (is_great_amount c amount) BadBytes _ refusal is tt (untimely receiver heard refusal))))
+  refusal_fits (calls.Change sid spec) refusal is =
+      unknown sid _ refusal is (λ is.
+      refused (not (has_live (is_kind_of spec) sid h)) OtherKind _ refusal is tt (λ is.
+      faulty (first_fault c spec) _ refusal is (λ is.
+      refused (is_periodic spec && nat_lt c.periodic (other_grants c sid h + grants_of spec)) PeriodicFull _
+      refusal is tt (no_more refusal))))
+  refusal_fits (calls.Rest sid) refusal is =
+      unknown sid _ refusal is (λ is.
+      refused (not (has_live is_unsolicited sid h)) NotUnsolicited _ refusal is tt (λ is.
+      refused (has_live (is_short_of_poll c) sid h) TooShort _ refusal is tt (no_more refusal)))
+  refusal_fits (calls.Wake sid) refusal is =
+      unknown sid _ refusal is (λ is.
+      refused (not (has_live is_unsolicited sid h)) NotUnsolicited _ refusal is tt (no_more refusal))
   refusal_fits (calls.Heard receiver upto) refusal is =
       let progress = progress_of c receiver h in
       refused (nat_le c.receivers receiver) BadReceiver _ refusal is tt (λ is.

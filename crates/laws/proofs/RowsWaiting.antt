@@ -19,6 +19,6 @@ asked stamp = record { stamp = stamp; call = calls.Ask 0 5 (Bytes 100) 30; reply
 lost : (c : Config) (stamp : Stamp) (admission : Admission) (m : FrameMap) → m.ack ≡ 31
     → ShowsRequests c m 5 (record { admission = admission; since = asked stamp ∷ [] }) → length m.wire.elements ≡ 1 → ⊥
 lost c stamp admission m ack shows few =
-    let has = shows.0 (omega arith) refl (omega (arith, ack)) in
+    let has = shows.0 refl (omega arith) refl (omega (arith, ack)) in
     let long = ap length has.whole in
     omega (arith, few, long, length-append has.front (null_element c ∷ has.behind), has.pending.1)

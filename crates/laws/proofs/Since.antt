@@ -52,7 +52,8 @@ since-in b asked granted upto heard lt is = elim (cases_lt b.end upto) [
   | inr within ↦ omega (arith, not-over b granted (omega arith), is.first lt (omega arith))
 ]
 
-alone-since : (end first granted : ℕ) → since_of (record { end = end; first = first; second = None }) granted ≡ first
+-- a flow whose requests were replaced waits since the one that did
+pub alone-since : (end first granted : ℕ) → since_of (record { end = end; first = first; second = None }) granted ≡ first
 alone-since end first granted =
     let b : Batches = record { end = end; first = first; second = None } in
     elim (cases_lt granted end) [

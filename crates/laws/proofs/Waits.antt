@@ -29,7 +29,7 @@ use Rattle.sched_history.proofs.steps.LegalHistories.{legal_induction, IsNextMap
 use Rattle.sched_history.proofs.time.AckTimes.{maps_acked, heard_after}
 use Rattle.sched_history.proofs.time.NextFrames.{maps_of-built, maps_of-unbuilt}
 use Rattle.sched_history.proofs.lives.Finding.{good_sid, flow_of-flows_of}
-use Rattle.laws.specs.Waiting.{HoldsWhereHeard, HasPending, ShowsRequests, IsEveryWait}
+use Rattle.laws.specs.Waiting.{HoldsWhereHeard, IsUnreplaced, HasPending, ShowsRequests, IsEveryWait}
 use Rattle.laws.proofs.Since.{IsIn, since-in}
 use Rattle.laws.proofs.WaitingLives.{HasBatches, heard-implied, each-implied, have_batches}
 use Rattle.laws.proofs.HeldBack.{late, late-is}
@@ -51,6 +51,7 @@ FewLate c h maps = AllByRecursion (λ m. count_by (late m.ack) (flows_of c h) �
 heard-parts : (m : FrameMap) (maps : List FrameMap) (call : Call) (reply : Reply) → IsHeardAfter (m ∷ maps) call reply
     → IsHeardFrom m.ack call reply × IsHeardAfter maps call reply
 heard-parts m maps (calls.Ask receiver sid amount heard) replies.Taken is = is
+heard-parts m maps (calls.Replace receiver sid amount heard) replies.Taken is = is
 heard-parts m maps call reply is = (tt, tt)
 
 module _ (c : Config) where
@@ -122,14 +123,16 @@ module _ (c : Config) where
         shows c h e m same next flow live (late-is m.ack flow waiting (omega (arith, early, before)))
 
     none-lost : ShowsRequests c m sid life
-    none-lost = each-implied (λ before x. HoldsWhereHeard sid (IsIn (batches_in c sid life.since)
-        (asked_in c sid life.since) (granted flow) (asked_in c sid (before ++ x ∷ []))) x.call x.reply)
-        (λ before x. granted flow < asked_in c sid (before ++ x ∷ [])
+    none-lost = each-implied (λ before x after. IsUnreplaced c sid after
+        → HoldsWhereHeard sid (IsIn (batches_in c sid life.since) (asked_in c sid life.since) (granted flow)
+        (asked_in c sid (before ++ x ∷ []))) x.call x.reply)
+        (λ before x after. IsUnreplaced c sid after → granted flow < asked_in c sid (before ++ x ∷ [])
         → HoldsWhereHeard sid (λ heard. heard < m.ack → HasPending c m flow) x.call x.reply)
-        (λ before x is lt. heard-implied sid (IsIn (batches_in c sid life.since) (asked_in c sid life.since)
-        (granted flow) (asked_in c sid (before ++ x ∷ []))) (λ heard. heard < m.ack → HasPending c m flow)
-        (λ heard here early. shown (asked_in c sid (before ++ x ∷ [])) heard lt here early) x.call x.reply is)
-        [] life.since has-batches.each
+        (λ before x after is unreplaced lt. heard-implied sid (IsIn (batches_in c sid life.since)
+        (asked_in c sid life.since) (granted flow) (asked_in c sid (before ++ x ∷ [])))
+        (λ heard. heard < m.ack → HasPending c m flow)
+        (λ heard here early. shown (asked_in c sid (before ++ x ∷ [])) heard lt here early) x.call x.reply
+        (is unreplaced)) [] life.since has-batches.each
 
 -- it holds of every MAP
 pub every_wait : IsEveryWait

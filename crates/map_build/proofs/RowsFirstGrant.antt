@@ -23,6 +23,7 @@ fresh burst asked heard = record {
   asked = asked;
   batches = one_request asked heard;
   grants = [];
+  earlier = 0;
 }
 
 -- it may take up to 544 bytes at once, where these are no more than its burst

@@ -62,7 +62,14 @@ the_bytes_of_a_frame_without_flows = refl
 
 -- a best effort flow without a ceiling that asked 100 bytes
 abbrev pub small : LiveFlow
-small = record { sid = 17; spec = BestEffort 3 0 0; asked = 100; batches = one_request 100 801; grants = [] }
+small = record {
+  sid = 17;
+  spec = BestEffort 3 0 0;
+  asked = 100;
+  batches = one_request 100 801;
+  grants = [];
+  earlier = 0;
+}
 
 -- a frame with its grant of nine minislots
 abbrev pub one_grant : List Allocation

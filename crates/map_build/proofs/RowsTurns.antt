@@ -21,11 +21,25 @@ use Rattle.map_build.proofs.RowsContention.{filled_by}
 
 -- flows 20 and 21 of one priority, each with 1000 bytes asked and these grants
 abbrev pub lower : List Grant → LiveFlow
-lower grants = record { sid = 20; spec = BestEffort 3 0 0; asked = 1000; batches = one_request 1000 801; grants = grants }
+lower grants = record {
+  sid = 20;
+  spec = BestEffort 3 0 0;
+  asked = 1000;
+  batches = one_request 1000 801;
+  grants = grants;
+  earlier = 0;
+}
 
 -- a flow of the next SID that is the same otherwise
 abbrev pub higher : List Grant → LiveFlow
-higher grants = record { sid = 21; spec = BestEffort 3 0 0; asked = 1000; batches = one_request 1000 801; grants = grants }
+higher grants = record {
+  sid = 21;
+  spec = BestEffort 3 0 0;
+  asked = 1000;
+  batches = one_request 1000 801;
+  grants = grants;
+  earlier = 0;
+}
 
 -- a grant of 544 bytes at this minislot
 abbrev pub grant_at : ℕ → List Grant

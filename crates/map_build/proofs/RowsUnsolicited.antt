@@ -19,7 +19,7 @@ use Rattle.map_build.proofs.RowsMaps.{none_waits}
 
 -- an unsolicited flow
 abbrev voice_flow : ℕ → LiveFlow
-voice_flow sid = record { sid = sid; spec = voice; asked = 0; batches = no_batches; grants = [] }
+voice_flow sid = record { sid = sid; spec = voice; asked = 0; batches = no_batches; grants = []; earlier = 0 }
 
 -- the unsolicited flows 5 and 6
 abbrev pub voices : List LiveFlow
@@ -80,7 +80,7 @@ the_words_of_a_frame_with_unsolicited_grants = refl
 
 -- the unsolicited flow 5 with two grants in an interval
 abbrev pub double_voices : List LiveFlow
-double_voices = record { sid = 5; spec = double_voice; asked = 0; batches = no_batches; grants = [] } ∷ []
+double_voices = record { sid = 5; spec = double_voice; asked = 0; batches = no_batches; grants = []; earlier = 0 } ∷ []
 
 -- the MAP of a frame with both
 abbrev pub double_map : FrameMap

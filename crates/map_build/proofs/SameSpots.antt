@@ -10,7 +10,7 @@ use Rattle.minislots.specs.declared.config.Config.{Config}
 use Rattle.flow_book.specs.Flows.{LiveFlow}
 use Rattle.flow_book.specs.Choice.{IsNext, IsAmount, NoneEligible}
 use Rattle.periodic.specs.declared.placement.Spot.{Spot}
-use Rattle.periodic.specs.Placement.{Placed as PlacedFlow, spots_in}
+use Rattle.periodic.specs.Placement.{Placed as PlacedFlow, due_in}
 use Rattle.periodic.specs.Table.{FollowInTurn, IsWithinFrame}
 use Rattle.map_build.specs.declared.frame.PlannedFrame.{PlannedFrame}
 use Rattle.sched_calls.specs.declared.frame_map.FrameMap.{FrameMap}
@@ -153,26 +153,26 @@ written-sids c (s ∷ spots) within =
 -- what is lawful for the spots that a table tells of frame k is lawful for those of its placements
 pub frame-told : {E : Type 0} (c d : Config) (flows : List LiveFlow) (waiting : List Opportunity) (header : Header)
     (k n ack : ℕ) (placed : List PlacedFlow) (spots : List Spot) (r : Result PlannedFrame E) →
-    d ≡ c → IsPermutation (spots_in d k placed) spots → n ≡ c.frame →
+    d ≡ c → IsPermutation (due_in d k placed) spots → n ≡ c.frame →
     IfOk r (λ p. IsLawfulFrame c (demand_at flows spots waiting (k * n)) header ack p) →
-    IfOk r (λ p. IsLawfulFrame c (demand_at flows (spots_in c k placed) waiting (k * c.frame)) header ack p)
+    IfOk r (λ p. IsLawfulFrame c (demand_at flows (due_in c k placed) waiting (k * c.frame)) header ack p)
 frame-told c d flows waiting header k n ack placed spots r same moved slots lawful =
     IfOk-weaker r _ _
-    (λ p is. frame-reordered c (demand_at flows (spots_in c k placed) waiting (k * c.frame)) spots header ack p
-    (subst (λ e. IsPermutation (spots_in e k placed) spots) same moved) is)
+    (λ p is. frame-reordered c (demand_at flows (due_in c k placed) waiting (k * c.frame)) spots header ack p
+    (subst (λ e. IsPermutation (due_in e k placed) spots) same moved) is)
     (rw slots at lawful)
 
 -- and there is no other
 pub only-told : {E : Type 0} (c d : Config) (flows : List LiveFlow) (waiting : List Opportunity) (header : Header)
     (k n ack : ℕ) (placed : List PlacedFlow) (spots : List Spot) (r : Result PlannedFrame E) →
-    d ≡ c → IsPermutation (spots_in d k placed) spots → n ≡ c.frame →
+    d ≡ c → IsPermutation (due_in d k placed) spots → n ≡ c.frame →
     IfOk r (λ p. (other : FrameMap) → IsLawfulMap c (demand_at flows spots waiting (k * n)) header ack other →
     other ≡ p.map) →
     IfOk r (λ p. (other : FrameMap) →
-    IsLawfulMap c (demand_at flows (spots_in c k placed) waiting (k * c.frame)) header ack other → other ≡ p.map)
+    IsLawfulMap c (demand_at flows (due_in c k placed) waiting (k * c.frame)) header ack other → other ≡ p.map)
 only-told c d flows waiting header k n ack placed spots r same moved slots only =
     IfOk-weaker r _ _
     (λ p is other lawful. is other
-    (lawful-in_order c (demand_at flows (spots_in c k placed) waiting (k * c.frame)) spots header ack other
-    (subst (λ e. IsPermutation (spots_in e k placed) spots) same moved) lawful))
+    (lawful-in_order c (demand_at flows (due_in c k placed) waiting (k * c.frame)) spots header ack other
+    (subst (λ e. IsPermutation (due_in e k placed) spots) same moved) lawful))
     (rw slots at only)

@@ -4,7 +4,7 @@ ghost use Rattle.std.specs.Prelude.{◌≡◌, ◌≤◌, ◌*◌, ◌^◌, [], 
 ghost use Rattle.std.specs.List.{AllByRecursion};
 ghost use Rattle.map_codec.specs.WireMap.{IsWellFormed};
 ghost use Rattle.flow_book.specs.Choice.{HasStartedBy};
-ghost use Rattle.periodic.specs.Placement.{spots_in};
+ghost use Rattle.periodic.specs.Placement.{due_in};
 ghost use Rattle.sched_calls.specs.declared.frame_map.FrameMap.{FrameMap};
 ghost use Rattle.sched_calls.specs.Header.{header_of};
 ghost use Rattle.map_build.specs.Opportunities.{MayWait, HaveStationSids, MeetsFirst};
@@ -87,10 +87,10 @@ pub fn plan_frame(
     requires bounded { frame * book.now.config.frame ≤ 2 ^ 61 }
 
     ensures lawful { IfOk result (λ m. IsLawfulMap book.now.config (demand_at book.now.flows
-        (spots_in book.now.config frame table.now.placed) [] (frame * book.now.config.frame))
+        (due_in book.now.config frame table.now.placed) [] (frame * book.now.config.frame))
         (header_of book.now.config) progress m) }
     ensures only { IfOk result (λ m. (n : FrameMap) → IsLawfulMap book.now.config
-        (demand_at book.now.flows (spots_in book.now.config frame table.now.placed) []
+        (demand_at book.now.flows (due_in book.now.config frame table.now.placed) []
         (frame * book.now.config.frame)) (header_of book.now.config) progress n → n ≡ m) }
     ensures encodable { AreOfChannel book.now.flows → IfOk result (λ m. IsWellFormed m.wire) }
 {
@@ -120,13 +120,13 @@ pub fn plan_with_book(
     requires waiting { MayWait waiting.now }
 
     ensures lawful { IfOk result (λ p. IsLawfulFrame book.now.config
-        (demand_at book.now.flows (spots_in book.now.config frame table.now.placed) waiting.now
+        (demand_at book.now.flows (due_in book.now.config frame table.now.placed) waiting.now
         (frame * book.now.config.frame)) header progress p) }
     ensures only { IfOk result (λ p. (n : FrameMap) → IsLawfulMap book.now.config
-        (demand_at book.now.flows (spots_in book.now.config frame table.now.placed) waiting.now
+        (demand_at book.now.flows (due_in book.now.config frame table.now.placed) waiting.now
         (frame * book.now.config.frame)) header progress n → n ≡ p.map) }
     ensures first { IfOk result (λ p. MeetsFirst book.now.config
-        (spots_in book.now.config frame table.now.placed) waiting.now p.met) }
+        (due_in book.now.config frame table.now.placed) waiting.now p.met) }
     ensures encodable { AreOfChannel book.now.flows → HaveStationSids waiting.now
         → IfOk result (λ p. IsWellFormed p.map.wire) }
     ensures config { IfOk result (λ p. p.overlay.config ≡ book.now.config) }

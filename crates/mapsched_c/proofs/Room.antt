@@ -1,39 +1,44 @@
--- A reply that may follow a history has no more starts than there is room for.
+-- A reply of a legal history has no more starts than there is room for.
 use Rattle.std.proofs.Common.{◌≡◌, refl, subst, ℕ, zero, suc, ◌/◌, ◌≤◌, inl, inr, Bool, true, false, arith}
 use Rattle.std.proofs.Common.{List, [], ◌∷◌, ◌++◌, length}
-use Rattle.std.specs.Prelude.{Option, None, Some, MatchOption}
+use Rattle.std.specs.Prelude.{Option, None, Some, MatchOption, IsSomeAnd}
 use Rattle.std.specs.List.{AllByRecursion, slice_get}
 use Rattle.std.proofs.Math.Nat.{div-le_self, mul-le-mul}
 use Rattle.minislots.specs.declared.config.Config.{Config}
 use Rattle.minislots.specs.Config.{IsLawful}
 use Rattle.minislots.proofs.Bounds.{bounds_of}
+use Rattle.minislots.specs.declared.stamp.Stamp.{Stamp}
 use Rattle.sched_calls.specs.declared.spec.FlowSpec.{FlowSpec}
 use Rattle.sched_calls.specs.declared.spec.FlowSpec.TheVariants.{Unsolicited, Polled, BestEffort}
 use Rattle.sched_calls.specs.FlowSpec.{is_periodic, takes_requests, interval_frames, first_fault}
 use Rattle.flow_book.specs.Flows.{LiveFlow}
 use Rattle.sched_calls.specs.declared.placement.Placement.{Placement}
-use Rattle.periodic.specs.Placement.{IsPlacement}
+use Rattle.periodic.specs.Placement.{Placed, IsPlacement, IsToldFrom}
+use Rattle.periodic.proofs.Joined.{all-append}
 use Rattle.periodic.proofs.Parameters.{places_of}
-use Rattle.map_build.specs.EachAfter.{EachAfter}
 use Rattle.sched_calls.specs.declared.call.Call.{Call}
 use Rattle.sched_calls.specs.declared.call.Call.TheVariants.{Admit, Remove, Ask, Heard, Build, Skip, Status}
-use Rattle.sched_calls.specs.declared.call.Call.TheVariants.{Reserve, Header}
+use Rattle.sched_calls.specs.declared.call.Call.TheVariants.{Reserve, Header, Replace, Change, Rest, Wake}
 use Rattle.sched_calls.specs.declared.reply.Refusal.{Refusal}
 use Rattle.sched_calls.specs.declared.reply.Reply.{Reply}
 use Rattle.sched_calls.specs.declared.reply.Reply.TheVariants as replies
 use Rattle.sched_calls.specs.declared.reply.Entry.{Entry}
-use Rattle.sched_history.specs.Life.{Life, life_of, flow_in_life, table_of}
+use Rattle.sched_history.specs.Life.{Admission, Life, life_of, given_in, flow_in_life}
 use Rattle.sched_history.specs.Time.{next_after}
 use Rattle.sched_history.specs.Refusal.{refusal_of}
-use Rattle.sched_history.specs.History.{PlacesOrRefuses, Answers, IsStep, IsLegal, flow_status}
-use Rattle.sched_history.proofs.steps.Passed.{passed-admit}
+use Rattle.sched_history.specs.History.{PlacesOrRefuses, PlacesAnew, AnswersChange, Answers, IsStep, IsLegal}
+use Rattle.sched_history.specs.History.{flow_status}
+use Rattle.sched_history.specs.Machine.{Machine}
+use Rattle.sched_history.proofs.steps.LegalHistories.{legal_induction}
+use Rattle.sched_history.proofs.steps.Passed.{passed-admit, passed-change}
+use Rattle.sched_history.proofs.placements.PlacedLives.{WasPlacedIn, lives_placed}
 use Rattle.mapsched_c.specs.Reply.{HasRoom}
 
 module _ (c : Config) (conf : IsLawful c) where
   -- a lawful placement of a flow without a fault has room
-  placed_room : (h : List Entry) (spec : FlowSpec) (p : Placement) → is_periodic spec ≡ true → first_fault c spec ≡ None
-      → IsPlacement c (table_of h) spec (next_after c h) p → length p.starts ≤ 512
-  placed_room h spec p periodic none is =
+  placed_room : (table : List Placed) (next : ℕ) (spec : FlowSpec) (p : Placement) → is_periodic spec ≡ true
+      → first_fault c spec ≡ None → IsPlacement c table spec next p → length p.starts ≤ 512
+  placed_room table next spec p periodic none is =
       let frames : c.cycle / interval_frames c spec ≤ 64 =
       omega (arith, div-le_self c.cycle (interval_frames c spec), (bounds_of c conf).cycle_most) in
       let grants = (places_of c spec conf periodic none).grants_most in
@@ -42,8 +47,44 @@ module _ (c : Config) (conf : IsLawful c) where
   placing_room : (h : List Entry) (spec : FlowSpec) (reply : Reply) → is_periodic spec ≡ true
       → first_fault c spec ≡ None
       → PlacesOrRefuses c h spec reply → HasRoom reply
-  placing_room h spec reply periodic none (inl (p, is, e)) = rw e (placed_room h spec p periodic none is)
+  placing_room h spec reply periodic none (inl (p, is, e)) = rw e (placed_room _ _ spec p periodic none is)
   placing_room h spec reply periodic none (inr (nowhere, e)) = rw e tt
+
+  admitted_room : (h : List Entry) (sid : ℕ) (spec : FlowSpec) (reply : Reply) → refusal_of c h (Admit sid spec) ≡ None
+      → is_periodic spec ≡ true → PlacesOrRefuses c h spec reply → HasRoom reply
+  admitted_room h sid spec reply passed periodic is =
+      placing_room h spec reply periodic (passed-admit c h sid spec passed).no_fault is
+
+  anew_room : (h : List Entry) (sid : ℕ) (spec : FlowSpec) (reply : Reply) → is_periodic spec ≡ true
+      → first_fault c spec ≡ None
+      → PlacesAnew c h sid spec reply → HasRoom reply
+  anew_room h sid spec reply periodic none (inl (p, is, e)) = rw e (placed_room _ _ spec p periodic none is)
+  anew_room h sid spec reply periodic none (inr (nowhere, e)) = rw e tt
+
+  -- a placement that stands keeps its starts
+  kept_room : (next from : ℕ) (given : Admission) (spec : FlowSpec) (o : Option Placement) (p : Placement)
+      → given.placement ≡ o → WasPlacedIn c next given → IsSomeAnd o (λ stands. IsToldFrom c spec from stands p)
+      → length p.starts ≤ 512
+  kept_room next from given spec None p at was told = absurd told
+  kept_room next from given spec (Some stands) p at was told =
+      let placed = was stands at in
+      rw told.starts (placed_room placed.table placed.since given.spec stands placed.periodic placed.faultless placed.lawful)
+
+  given_room : (h : List Entry) (sid : ℕ) (given : Admission) (spec : FlowSpec) (reply : Reply)
+      → WasPlacedIn c (next_after c h) given → first_fault c spec ≡ None → AnswersChange c h sid given spec reply
+      → HasRoom reply
+  given_room h sid given spec reply was none (inl (same, (p, told, e))) =
+      rw e (kept_room (next_after c h) (next_after c h) given spec given.placement p refl was told)
+  given_room h sid given spec reply was none (inr (inl (other, periodic, is))) =
+      anew_room h sid spec reply periodic none is
+  given_room h sid given spec reply was none (inr (inr (aperiodic, e))) = rw e tt
+
+  changed_room : (h : List Entry) (sid : ℕ) (spec : FlowSpec) (o : Option Life) (reply : Reply) → life_of sid h ≡ o
+      → IsLegal c h → first_fault c spec ≡ None
+      → MatchOption o ⊥ (λ life. AnswersChange c h sid (given_in sid life) spec reply) → HasRoom reply
+  changed_room h sid spec None reply lives legal none is = absurd is
+  changed_room h sid spec (Some life) reply lives legal none is =
+      given_room h sid (given_in sid life) spec reply (lives_placed c h legal sid life lives) none is
 
   status_room : (f : LiveFlow) (b : Bool) → takes_requests f.spec ≡ b → (reply : Reply) → reply ≡ flow_status f
       → HasRoom reply
@@ -55,45 +96,61 @@ module _ (c : Config) (conf : IsLawful c) where
   life_room sid None reply said = absurd said
   life_room sid (Some life) reply e = status_room (flow_in_life c sid life) _ refl reply e
 
-  admitted_room : (h : List Entry) (sid : ℕ) (spec : FlowSpec) (reply : Reply) → refusal_of c h (Admit sid spec) ≡ None
-      → is_periodic spec ≡ true → PlacesOrRefuses c h spec reply → HasRoom reply
-  admitted_room h sid spec reply passed periodic is =
-      placing_room h spec reply periodic (passed-admit c h sid spec passed).no_fault is
-
-  answer_room : (h : List Entry) (call : Call) (reply : Reply) → refusal_of c h call ≡ None → Answers c h call reply
+  answer_room : (h : List Entry) (call : Call) (reply : Reply) → IsLegal c h → refusal_of c h call ≡ None
+      → Answers c h call reply
       → HasRoom reply
-  answer_room h (Admit sid (Unsolicited size interval jitter grants)) reply passed is =
+  answer_room h (Admit sid (Unsolicited size interval jitter grants)) reply legal passed is =
       admitted_room h sid (Unsolicited size interval jitter grants) reply passed refl is
-  answer_room h (Admit sid (Polled interval jitter rate burst)) reply passed is =
+  answer_room h (Admit sid (Polled interval jitter rate burst)) reply legal passed is =
       admitted_room h sid (Polled interval jitter rate burst) reply passed refl is
-  answer_room h (Admit sid (BestEffort priority rate burst)) reply passed e = rw e tt
-  answer_room h (Remove sid) reply passed e = rw e tt
-  answer_room h (Ask receiver sid amount heard) reply passed e = rw e tt
-  answer_room h (Heard receiver upto) reply passed e = rw e tt
-  answer_room h (Build now) reply passed (m, is, e) = rw e tt
-  answer_room h (Skip now) reply passed (start, is, e) = rw e tt
-  answer_room h (Status sid) reply passed is = life_room sid (life_of sid h) reply is
-  answer_room h (Reserve usage slots) reply passed e = rw e tt
-  answer_room h (Header header) reply passed e = rw e tt
+  answer_room h (Admit sid (BestEffort priority rate burst)) reply legal passed e = rw e tt
+  answer_room h (Remove sid) reply legal passed e = rw e tt
+  answer_room h (Ask receiver sid amount heard) reply legal passed e = rw e tt
+  answer_room h (Heard receiver upto) reply legal passed e = rw e tt
+  answer_room h (Build now) reply legal passed (m, is, e) = rw e tt
+  answer_room h (Skip now) reply legal passed (start, is, e) = rw e tt
+  answer_room h (Status sid) reply legal passed is = life_room sid (life_of sid h) reply is
+  answer_room h (Reserve usage slots) reply legal passed e = rw e tt
+  answer_room h (Header header) reply legal passed e = rw e tt
+  answer_room h (Replace receiver sid amount heard) reply legal passed e = rw e tt
+  answer_room h (Change sid spec) reply legal passed is =
+      changed_room h sid spec (life_of sid h) reply refl legal (passed-change c h sid spec passed).no_fault is
+  answer_room h (Rest sid) reply legal passed e = rw e tt
+  answer_room h (Wake sid) reply legal passed e = rw e tt
 
   either_room : (h : List Entry) (call : Call) (reply : Reply) (o : Option Refusal) → refusal_of c h call ≡ o
+      → IsLegal c h
       → MatchOption o (Answers c h call reply) (λ refusal. reply ≡ replies.Refused refusal) → HasRoom reply
-  either_room h call reply None passed is = answer_room h call reply passed is
-  either_room h call reply (Some refusal) refused e = rw e tt
+  either_room h call reply None passed legal is = answer_room h call reply legal passed is
+  either_room h call reply (Some refusal) refused legal e = rw e tt
 
-  -- a step has room
-  pub step_room : (h : List Entry) (call : Call) (reply : Reply) → IsStep c h call reply → HasRoom reply
-  step_room h call reply is = either_room h call reply (refusal_of c h call) refl is
-
-  steps_room : (before h : List Entry) → EachAfter (λ b e. IsStep c b e.call e.reply) before h
-      → AllByRecursion (λ e. HasRoom e.reply) h
-  steps_room before [] each = tt
-  steps_room before (e ∷ es) each =
-      (step_room before e.call e.reply each.0, steps_room (before ++ e ∷ []) es each.1)
+  -- a step after a legal history has room
+  pub step_room : (h : List Entry) (call : Call) (reply : Reply) → IsLegal c h → IsStep c h call reply → HasRoom reply
+  step_room h call reply legal is = either_room h call reply (refusal_of c h call) refl legal is
 
   -- so has every entry of a legal history
   pub legal_room : (h : List Entry) → IsLegal c h → AllByRecursion (λ e. HasRoom e.reply) h
-  legal_room h legal = steps_room [] h legal
+  legal_room = legal_induction c (AllByRecursion (λ e. HasRoom e.reply))
+      (λ h e legal step all. all-append (λ e. HasRoom e.reply) h (e ∷ []) all
+      (step_room h e.call e.reply legal step, tt)) tt
+
+-- what holds of each holds of the last
+last_of : {A : Type 0} (P : A → Type 0) (xs : List A) (x : A) → AllByRecursion P (xs ++ x ∷ []) → P x
+last_of P [] x all = all.0
+last_of P (y ∷ ys) x all = last_of P ys x all.1
+
+-- the reply of the last entry of a legal history has room
+pub last_room : (c : Config) (h : List Entry) (stamp : Stamp) (call : Call) (reply : Reply) → IsLawful c
+    → IsLegal c (h ++ record { stamp = stamp; call = call; reply = reply } ∷ []) → HasRoom reply
+last_room c h stamp call reply lawful legal = last_of (λ e. HasRoom e.reply) h
+    (record { stamp = stamp; call = call; reply = reply }) (legal_room c lawful _ legal)
+
+-- so has that of the call that a scheduler has recorded
+pub recorded_room : (old new : Machine) (stamp : Stamp) (call : Call) (reply : Reply) → IsLawful old.config
+    → new ≡ record old { history = old.history ++ record { stamp = stamp; call = call; reply = reply } ∷ [] }
+    → IsLegal new.config new.history → HasRoom reply
+recorded_room old new stamp call reply lawful recorded legal =
+    last_room old.config old.history stamp call reply lawful (subst (λ (m : Machine). IsLegal m.config m.history) recorded legal)
 
 -- what holds of each holds of the one at a place
 pub at_place : {A : Type 0} (P : A → Type 0) (xs : List A) (i : ℕ) (x : A) → AllByRecursion P xs

@@ -1,7 +1,7 @@
 -- A call in plain numbers. An opportunity has its usage where an admission has its kind of flow, and its minislots
 -- where an unsolicited flow has its size, as a request that asks for minislots has them; a header has its UCD count and
 -- the exponents of the windows of ranging where others have a receiver, a priority and grants.
-use Rattle.std.specs.Prelude.{◌==◌, Option, None, Some, option_map, if◌then◌else◌}
+use Rattle.std.specs.Prelude.{ℕ, ◌==◌, Option, None, Some, option_map, if◌then◌else◌}
 use Rattle.sched_calls.specs.declared.amount.Amount.{Amount}
 use Rattle.sched_calls.specs.declared.amount.Amount.TheVariants.{Bytes, Slots}
 use Rattle.sched_calls.specs.declared.spec.FlowSpec.{FlowSpec}
@@ -12,9 +12,10 @@ use Rattle.sched_calls.specs.declared.opportunity.Usage.TheVariants.{Initial, St
 use Rattle.sched_calls.specs.declared.call.Call.{Call}
 use Rattle.sched_calls.specs.declared.call.Call.TheVariants as calls
 use Rattle.sched_calls.specs.declared.call.Call.TheVariants.{Admit, Remove, Ask, Heard, Build, Skip, Status, Reserve}
+use Rattle.sched_calls.specs.declared.call.Call.TheVariants.{Replace, Change, Rest, Wake}
 use Rattle.mapsched_c.specs.declared.call.PlainCall.{PlainCall}
 use Rattle.mapsched_c.specs.declared.call.kind.TheConstants.{ADMIT, REMOVE, ASK, HEARD, BUILD, SKIP, STATUS}
-use Rattle.mapsched_c.specs.declared.call.kind.TheConstants.{RESERVE, HEADER}
+use Rattle.mapsched_c.specs.declared.call.kind.TheConstants.{RESERVE, HEADER, REPLACE, CHANGE, REST, WAKE}
 use Rattle.mapsched_c.specs.declared.call.flow.TheConstants.{UNSOLICITED, POLLED, BEST_EFFORT}
 use Rattle.mapsched_c.specs.declared.call.usage.TheConstants.{INITIAL, STATION}
 
@@ -54,6 +55,10 @@ call_of c = if c.kind == ADMIT then option_map (Admit c.sid) (flow_of c)
     else if c.kind == STATUS then Some (Status c.sid)
     else if c.kind == RESERVE then option_map (λ usage. Reserve usage c.size) (usage_of c)
     else if c.kind == HEADER then Some (calls.Header (header_of c))
+    else if c.kind == REPLACE then Some (Replace c.receiver c.sid (amount_of c) c.minislot)
+    else if c.kind == CHANGE then option_map (Change c.sid) (flow_of c)
+    else if c.kind == REST then Some (Rest c.sid)
+    else if c.kind == WAKE then Some (Wake c.sid)
     else None
 
 -- all numbers 0
@@ -100,25 +105,21 @@ plain_flow (BestEffort priority rate burst) = record nothing_called {
   burst = burst;
 }
 
+-- the numbers of what a request asks for
+abbrev pub plain_amount : Amount → PlainCall
+plain_amount (Bytes bytes) = record nothing_called { bytes = bytes }
+plain_amount (Slots slots) = record nothing_called { size = slots; has_slots = 1 }
+
+-- the numbers of a request of this kind
+abbrev pub plain_request : ℕ → ℕ → ℕ → Amount → ℕ → PlainCall
+plain_request kind receiver sid amount heard =
+    record (plain_amount amount) { kind = kind; receiver = receiver; sid = sid; minislot = heard }
+
 -- the numbers of a call: those that its kind has not are 0
 abbrev pub plain_call : Call → PlainCall
 plain_call (Admit sid spec) = record (plain_flow spec) { kind = ADMIT; sid = sid }
 plain_call (Remove sid) = record nothing_called { kind = REMOVE; sid = sid }
-plain_call (Ask receiver sid (Bytes bytes) heard) = record nothing_called {
-  kind = ASK;
-  receiver = receiver;
-  sid = sid;
-  bytes = bytes;
-  minislot = heard;
-}
-plain_call (Ask receiver sid (Slots slots) heard) = record nothing_called {
-  kind = ASK;
-  receiver = receiver;
-  sid = sid;
-  size = slots;
-  minislot = heard;
-  has_slots = 1;
-}
+plain_call (Ask receiver sid amount heard) = plain_request ASK receiver sid amount heard
 plain_call (Heard receiver upto) = record nothing_called { kind = HEARD; receiver = receiver; minislot = upto }
 plain_call (Build now) = record nothing_called { kind = BUILD; minislot = now }
 plain_call (Skip now) = record nothing_called { kind = SKIP; minislot = now }
@@ -134,3 +135,7 @@ plain_call (calls.Header header) = record nothing_called {
   data_start = header.data_start;
   data_end = header.data_end;
 }
+plain_call (Replace receiver sid amount heard) = plain_request REPLACE receiver sid amount heard
+plain_call (Change sid spec) = record (plain_flow spec) { kind = CHANGE; sid = sid }
+plain_call (Rest sid) = record nothing_called { kind = REST; sid = sid }
+plain_call (Wake sid) = record nothing_called { kind = WAKE; sid = sid }

@@ -2,6 +2,7 @@
 
 ghost use Rattle.std.specs.Prelude.{◌≡◌, Some};
 ghost use Rattle.mapsched_c.specs.Call.{call_of, flow_of, usage_of, amount_of, header_of, nothing_called, plain_call};
+ghost use Rattle.mapsched_c.specs.Call.{plain_flow, plain_amount, plain_request};
 
 use flow_book::FlowSpec;
 use map_build::{Header, Usage};
@@ -36,6 +37,18 @@ pub mod kind {
 
     /// Sets the UCD count and the backoff windows of the next MAPs.
     pub const HEADER: u32 = 8;
+
+    /// Hands in a request that supersedes those before.
+    pub const REPLACE: u32 = 9;
+
+    /// Gives a live flow other parameters.
+    pub const CHANGE: u32 = 10;
+
+    /// Lets an unsolicited flow rest.
+    pub const REST: u32 = 11;
+
+    /// Gives an unsolicited flow that rests its grants again.
+    pub const WAKE: u32 = 12;
 }
 
 /// Whom an opportunity is for.
@@ -66,7 +79,7 @@ pub mod flow {
 pub struct PlainCall {
     /// The number of its kind: one of [`kind`].
     pub kind: u32,
-    /// An admission's kind of flow: one of [`flow`]. Whom an opportunity is for: one of [`usage`].
+    /// An admission's or a change's kind of flow: one of [`flow`]. Whom an opportunity is for: one of [`usage`].
     pub flow: u32,
     /// An unsolicited flow's bytes in a grant. How many minislots an opportunity has, or a request asks for.
     pub size: u32,
@@ -119,7 +132,7 @@ const NOTHING: PlainCall = PlainCall {
 };
 
 impl PlainCall {
-    // The flow that is admitted, where there is such a kind.
+    // The flow that is admitted or changed, where there is such a kind.
     fn flow(&self) -> Option<FlowSpec>
         ensures { result ≡ flow_of self.now }
     {
@@ -167,12 +180,25 @@ impl PlainCall {
         }
     }
 
-    // The request of these numbers.
+    // The request that adds to those before.
     fn ask(&self) -> Call
         ensures { result ≡
             Call.Ask self.now.receiver self.now.sid (amount_of self.now) self.now.minislot }
     {
         Call::Ask {
+            receiver: self.receiver,
+            sid: self.sid,
+            amount: self.amount(),
+            heard: self.minislot,
+        }
+    }
+
+    // The request that supersedes those before.
+    fn replace(&self) -> Call
+        ensures { result ≡
+            Call.Replace self.now.receiver self.now.sid (amount_of self.now) self.now.minislot }
+    {
+        Call::Replace {
             receiver: self.receiver,
             sid: self.sid,
             amount: self.amount(),
@@ -213,24 +239,21 @@ impl PlainCall {
                 slots: self.size,
             },
             kind::HEADER => self.header(),
+            kind::REPLACE => self.replace(),
+            kind::CHANGE => Call::Change(self.sid, self.flow()?),
+            kind::REST => Call::Rest(self.sid),
+            kind::WAKE => Call::Wake(self.sid),
             _ => return None,
         })
     }
 
-    // The numbers of an admission of unsolicited grants.
-    fn of_unsolicited(
-        sid: u16,
-        size: u32,
-        interval_us: u32,
-        jitter_us: u32,
-        grants: u8,
-    ) -> PlainCall
+    // The numbers of a flow of unsolicited grants.
+    fn of_unsolicited(size: u32, interval_us: u32, jitter_us: u32, grants: u8) -> PlainCall
         ensures { result ≡
-            plain_call (Call.Admit sid (FlowSpec.Unsolicited size interval_us jitter_us grants)) }
+            plain_flow (FlowSpec.Unsolicited size interval_us jitter_us grants) }
     {
         PlainCall {
             flow: flow::UNSOLICITED,
-            sid,
             size,
             interval_us,
             jitter_us,
@@ -239,14 +262,12 @@ impl PlainCall {
         }
     }
 
-    // The numbers of an admission of polls.
-    fn of_polled(sid: u16, interval_us: u32, jitter_us: u32, rate: u32, burst: u32) -> PlainCall
-        ensures { result ≡
-            plain_call (Call.Admit sid (FlowSpec.Polled interval_us jitter_us rate burst)) }
+    // The numbers of a polled flow.
+    fn of_polled(interval_us: u32, jitter_us: u32, rate: u32, burst: u32) -> PlainCall
+        ensures { result ≡ plain_flow (FlowSpec.Polled interval_us jitter_us rate burst) }
     {
         PlainCall {
             flow: flow::POLLED,
-            sid,
             interval_us,
             jitter_us,
             rate,
@@ -255,13 +276,12 @@ impl PlainCall {
         }
     }
 
-    // The numbers of an admission of a best effort flow.
-    fn of_best_effort(sid: u16, priority: u8, rate: u32, burst: u32) -> PlainCall
-        ensures { result ≡ plain_call (Call.Admit sid (FlowSpec.BestEffort priority rate burst)) }
+    // The numbers of a best effort flow.
+    fn of_best_effort(priority: u8, rate: u32, burst: u32) -> PlainCall
+        ensures { result ≡ plain_flow (FlowSpec.BestEffort priority rate burst) }
     {
         PlainCall {
             flow: flow::BEST_EFFORT,
-            sid,
             priority,
             rate,
             burst,
@@ -269,9 +289,9 @@ impl PlainCall {
         }
     }
 
-    // The numbers of an admission.
-    fn of_admission(sid: u16, spec: FlowSpec) -> PlainCall
-        ensures { result ≡ plain_call (Call.Admit sid spec) }
+    // The numbers of a flow that is admitted or changed.
+    fn of_spec(spec: FlowSpec) -> PlainCall
+        ensures { result ≡ plain_flow spec }
     {
         match spec {
             FlowSpec::Unsolicited {
@@ -279,18 +299,29 @@ impl PlainCall {
                 interval_us,
                 jitter_us,
                 grants,
-            } => PlainCall::of_unsolicited(sid, size, interval_us, jitter_us, grants),
+            } => PlainCall::of_unsolicited(size, interval_us, jitter_us, grants),
             FlowSpec::Polled {
                 interval_us,
                 jitter_us,
                 rate,
                 burst,
-            } => PlainCall::of_polled(sid, interval_us, jitter_us, rate, burst),
+            } => PlainCall::of_polled(interval_us, jitter_us, rate, burst),
             FlowSpec::BestEffort {
                 priority,
                 rate,
                 burst,
-            } => PlainCall::of_best_effort(sid, priority, rate, burst),
+            } => PlainCall::of_best_effort(priority, rate, burst),
+        }
+    }
+
+    // The numbers of a call of this kind that gives a flow its parameters.
+    fn of_parameters(kind: u32, sid: u16, spec: FlowSpec) -> PlainCall
+        ensures { result ≡ record (plain_flow spec) { kind = kind; sid = sid } }
+    {
+        PlainCall {
+            kind,
+            sid,
+            ..PlainCall::of_spec(spec)
         }
     }
 
@@ -316,24 +347,30 @@ impl PlainCall {
         }
     }
 
-    // The numbers of a request.
-    fn of_ask(receiver: u8, sid: u16, amount: Amount, heard: u64) -> PlainCall
-        ensures { result ≡ plain_call (Call.Ask receiver sid amount heard) }
+    // The numbers of what a request asks for.
+    fn of_amount(amount: Amount) -> PlainCall
+        ensures { result ≡ plain_amount amount }
     {
-        let asked = PlainCall {
-            kind: kind::ASK,
-            receiver,
-            sid,
-            minislot: heard,
-            ..NOTHING
-        };
         match amount {
-            Amount::Bytes(bytes) => PlainCall { bytes, ..asked },
+            Amount::Bytes(bytes) => PlainCall { bytes, ..NOTHING },
             Amount::Slots(slots) => PlainCall {
                 size: slots,
                 has_slots: 1,
-                ..asked
+                ..NOTHING
             },
+        }
+    }
+
+    // The numbers of a request of this kind.
+    fn of_request(kind: u32, receiver: u8, sid: u16, amount: Amount, heard: u64) -> PlainCall
+        ensures { result ≡ plain_request kind receiver sid amount heard }
+    {
+        PlainCall {
+            kind,
+            receiver,
+            sid,
+            minislot: heard,
+            ..PlainCall::of_amount(amount)
         }
     }
 
@@ -391,20 +428,29 @@ impl PlainCall {
         ensures read { call_of result ≡ Some call }
     {
         match call {
-            Call::Admit(sid, spec) => PlainCall::of_admission(sid, spec),
+            Call::Admit(sid, spec) => PlainCall::of_parameters(kind::ADMIT, sid, spec),
             Call::Remove(sid) => PlainCall::of_flow(kind::REMOVE, sid),
             Call::Ask {
                 receiver,
                 sid,
                 amount,
                 heard,
-            } => PlainCall::of_ask(receiver, sid, amount, heard),
+            } => PlainCall::of_request(kind::ASK, receiver, sid, amount, heard),
             Call::Heard { receiver, upto } => PlainCall::of_heard(receiver, upto),
             Call::Build { now } => PlainCall::of_minislot(kind::BUILD, now),
             Call::Skip { now } => PlainCall::of_minislot(kind::SKIP, now),
             Call::Status(sid) => PlainCall::of_flow(kind::STATUS, sid),
             Call::Reserve { usage, slots } => PlainCall::of_reserve(usage, slots),
             Call::Header(header) => PlainCall::of_header(header),
+            Call::Replace {
+                receiver,
+                sid,
+                amount,
+                heard,
+            } => PlainCall::of_request(kind::REPLACE, receiver, sid, amount, heard),
+            Call::Change(sid, spec) => PlainCall::of_parameters(kind::CHANGE, sid, spec),
+            Call::Rest(sid) => PlainCall::of_flow(kind::REST, sid),
+            Call::Wake(sid) => PlainCall::of_flow(kind::WAKE, sid),
         }
     }
 }

@@ -2,9 +2,9 @@
 
 ghost use Rattle.std.specs.Prelude.{◌≡◌, ◌≤◌, length};
 ghost use Rattle.map_codec.specs.WireMap.{IsWellFormed};
-ghost use Rattle.sched_calls.specs.declared.reply.Reply.TheVariants.{Admitted, Built, Flow, Refused};
+ghost use Rattle.sched_calls.specs.declared.reply.Reply.TheVariants.{Built, Flow, Refused};
 ghost use Rattle.sched_calls.specs.Reply.{IsEncodable};
-ghost use Rattle.mapsched_c.specs.Reply.{HasRoom, plain_reply, with_kind};
+ghost use Rattle.mapsched_c.specs.Reply.{HasRoom, plain_reply, with_kind, with_placement};
 
 use map_build::FrameMap;
 use map_codec::{MAX_BYTES, encode};
@@ -25,7 +25,7 @@ pub mod answer {
     /// The request is counted.
     pub const TAKEN: u32 = 3;
 
-    /// The progress of a receiver, or the header of the next MAPs, is noted.
+    /// The progress of a receiver, the header of the next MAPs, or that a flow rests or wakes, is noted.
     pub const NOTED: u32 = 4;
 
     /// The MAP of the next frame, as its bytes.
@@ -42,6 +42,9 @@ pub mod answer {
 
     /// The opportunity waits for a MAP.
     pub const RESERVED: u32 = 9;
+
+    /// Changed, a periodic flow with its placement, a best effort flow without starts.
+    pub const CHANGED: u32 = 10;
 }
 
 /// The most starts of a placement: the most grants of one interval, in each frame of the longest cycle.
@@ -88,13 +91,13 @@ impl PlainReply {
         self.outstanding = 0;
     }
 
-    // The reply to an admission of a periodic flow.
-    fn put_placement(&mut self, placement: &Placement)
+    // A reply of this kind with the placement of a periodic flow.
+    fn put_placement(&mut self, kind: u32, placement: &Placement)
         requires { length placement.now.starts ≤ MAX_STARTS }
-        ensures { self.new ≡ plain_reply self.old (Admitted (Some placement.now)) }
+        ensures { self.new ≡ with_placement self.old kind placement.now }
     {
         let starts = placement.starts.as_slice();
-        self.put_kind(answer::PLACED);
+        self.put_kind(kind);
         self.value = placement.reference;
         self.starts_count = starts.len() as u32;
         self.starts[..starts.len()].copy_from_slice(starts);
@@ -137,7 +140,9 @@ impl PlainReply {
     {
         match reply {
             Reply::Admitted(None) => self.put_kind(answer::ADMITTED),
-            Reply::Admitted(Some(placement)) => self.put_placement(placement),
+            Reply::Admitted(Some(placement)) => self.put_placement(answer::PLACED, placement),
+            Reply::Changed(None) => self.put_kind(answer::CHANGED),
+            Reply::Changed(Some(placement)) => self.put_placement(answer::CHANGED, placement),
             Reply::Removed => self.put_kind(answer::REMOVED),
             Reply::Taken => self.put_kind(answer::TAKEN),
             Reply::Noted => self.put_kind(answer::NOTED),

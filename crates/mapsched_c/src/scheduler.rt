@@ -46,7 +46,7 @@ pub(crate) fn text_of(alloc: Global, scheduler: &Scheduler) -> Result<Vec<u8>, A
 }
 
 // Answers a call and records it, and writes its reply. A call that is not recorded changes nothing.
-#[tactic(auto, using(crate::proofs::Room::step_room))]
+#[tactic(auto, using(crate::proofs::Room::recorded_room))]
 pub(crate) fn answer(
     scheduler: &mut Scheduler,
     stamp: Stamp,

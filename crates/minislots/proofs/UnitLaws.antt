@@ -1,10 +1,30 @@
 -- Data grants in minislots and in bytes, where the channel's bursts are lawful.
-use Rattle.std.proofs.Common.{◌≡◌, ℕ, zero, suc, ◌<◌, ◌≤◌, ◌==◌, min, arith}
+use Rattle.std.proofs.Common.{◌≡◌, ℕ, zero, suc, ◌-◌, ◌<◌, ◌≤◌, ◌==◌, min, arith, ap, ◌∙◌}
+use Rattle.minislots.specs.declared.bursts.Bursts.TheVariants.{Described}
+use Rattle.minislots.specs.declared.bursts.Descriptors.{Descriptors}
 use Rattle.minislots.specs.declared.config.Config.{Config}
-use Rattle.minislots.specs.Bursts.{HasBursts, IsCapacity}
+use Rattle.minislots.specs.declared.config.GrantSizes.{GrantSizes}
+use Rattle.minislots.specs.Bursts.{HasBursts, IsCapacity, short_sizes}
+use Rattle.minislots.specs.Products.{products, long_products, short_products}
+use Rattle.minislots.specs.Sizes.{grant_sizes}
 use Rattle.minislots.specs.Units.{slots_for, bytes_in, slots_for_unsolicited}
 use Rattle.minislots.proofs.BurstLaws.{by_bursts, by_bursts-rises, length-positive}
 use Rattle.minislots.proofs.BurstLaws.{unsolicited-positive, either-positive}
+
+-- what is kept of a channel with these descriptors
+module _ (c : Config) (d : Descriptors) (sizes : GrantSizes) (are : sizes ≡ grant_sizes c)
+    (these : c.bursts ≡ Described d) where
+  pub short-are : sizes.short ≡ short_sizes (Described d) c.short_max
+  short-are = ap (λ s. s.short) are ∙ ap (λ b. short_sizes b c.short_max) these
+
+  pub short_bytes-are : sizes.short_bytes ≡ short_sizes (Described d) c.short_max - 1
+  short_bytes-are = ap (λ s. s.short_bytes) are ∙ ap (λ b. short_sizes b c.short_max - 1) these
+
+  pub by_long-is : sizes.by_long ≡ products d.symbols d.long
+  by_long-is = ap (λ s. s.by_long) are ∙ ap long_products these
+
+  pub by_short-is : sizes.by_short ≡ products d.symbols d.short
+  by_short-is = ap (λ s. s.by_short) are ∙ ap short_products these
 
 module _ (c : Config) (bursts : HasBursts c.bursts) where
   -- a grant that fits the minislots has no more bytes than they carry

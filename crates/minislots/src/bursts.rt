@@ -9,7 +9,7 @@ ghost use Rattle.minislots.specs.Bursts.{long_slots, unsolicited_slots, uniform_
 ghost use Rattle.minislots.specs.Bursts.{short_slots, short_bytes, short_sizes};
 
 /// The fewest information bytes of a shortened last codeword.
-const LEAST_INFORMATION: u32 = 16;
+pub(crate) const LEAST_INFORMATION: u32 = 16;
 
 /// The burst descriptor of one usage code, as a UCD has it.
 #[derive(Clone, Copy, Debug, PartialEq, Eq)]

@@ -10,6 +10,7 @@ mod ranges;
 mod readers;
 
 use crate::bursts::Bursts;
+use crate::products::Products;
 pub use ranges::FieldRule;
 use std::fmt;
 use std::marker::Model;
@@ -112,6 +113,12 @@ pub(crate) struct GrantSizes {
     pub(crate) cap_slots: u64,
     /// Whether such a grant is a short one.
     pub(crate) cap_is_short: bool,
+    /// The most bytes of a short grant, or 0 where there is none.
+    pub(crate) short_bytes: u64,
+    /// The numbers of the profile of long data grants.
+    pub(crate) by_long: Products,
+    /// And of that of short ones.
+    pub(crate) by_short: Products,
 }
 
 /// A configuration in which each field is lawful.
@@ -173,6 +180,9 @@ impl Config {
             short,
             cap_slots: cap.slots,
             cap_is_short: cap.is_short,
+            short_bytes: short.saturating_sub(1),
+            by_long: self.bursts.long_products(),
+            by_short: self.bursts.short_products(),
         }
     }
 }

@@ -4,6 +4,7 @@
 
 mod bursts;
 mod config;
+mod products;
 mod stamp;
 mod units;
 

@@ -1,13 +1,14 @@
 //! Times and bursts in minislots.
 
 ghost use Rattle.std.specs.Prelude.{◌≡◌, ℕ, ◌<◌, ◌≤◌, ◌*◌, ◌^◌, min};
-ghost use Rattle.minislots.specs.Bursts.{IsCapacity};
+ghost use Rattle.minislots.specs.Bursts.{IsCapacity, AreSound};
 ghost use Rattle.minislots.specs.Config.{IsLawful};
 ghost use Rattle.minislots.specs.Units.{slots_floor, slots_of_micros, slots_for, bytes_in, wire_of};
 ghost use Rattle.minislots.specs.Units.{is_short, slots_for_unsolicited};
 
-use crate::bursts::GrantSize;
+use crate::bursts::{Bursts, Descriptors, GrantSize};
 use crate::config::Checked;
+use crate::products::{MOST_BYTES, MOST_SLOTS};
 
 impl Checked {
     /// The minislots in a time of `micros` microseconds, where they are whole.
@@ -55,7 +56,37 @@ impl Checked {
                 is_short: self.sizes().cap_is_short,
             };
         }
-        self.as_bursts().grant_size(self.sizes().short, bytes)
+        match self.as_bursts() {
+            Bursts::Uniform { .. } => self.as_bursts().grant_size(self.sizes().short, bytes),
+            Bursts::Described(these) => self.described_size(these, bytes),
+        }
+    }
+
+    // The same by these descriptors, which are those of the channel.
+    #[inline(never)]
+    fn described_size(&self, these: &Descriptors, bytes: u32) -> GrantSize
+        requires these { self.now.bursts ≡ Bursts.Described these.now }
+        requires sound { AreSound these.now }
+        ensures slots { result.slots ≡ slots_for self.now bytes }
+        ensures usage { result.is_short ≡ is_short self.now bytes }
+        ensures small { result.slots < 2 ^ 46 }
+    {
+        if bytes == 0 || bytes > MOST_BYTES {
+            return self.as_bursts().grant_size(self.sizes().short, bytes);
+        }
+        let (sizes, before) = (self.sizes(), bytes - 1);
+        let long = sizes.by_long.slots(these.symbols, &these.long, before);
+        if u64::from(before) >= sizes.short_bytes {
+            return GrantSize {
+                slots: long,
+                is_short: false,
+            };
+        }
+        let short = sizes.by_short.slots(these.symbols, &these.short, before);
+        GrantSize {
+            slots: long.min(short),
+            is_short: short <= long,
+        }
     }
 
     /// The most bytes of a data grant of at most `slots` minislots, or 0 where there is none.
@@ -64,8 +95,33 @@ impl Checked {
         ensures value { result ≡ bytes_in self.now slots }
         ensures exact { IsCapacity (slots_for self.now) slots result }
     {
-        self.as_bursts()
-            .bytes(self.short_max(), self.sizes().short, slots)
+        match self.as_bursts() {
+            Bursts::Uniform { .. } => {
+                self.as_bursts()
+                    .bytes(self.short_max(), self.sizes().short, slots)
+            }
+            Bursts::Described(these) => self.described_bytes(these, slots),
+        }
+    }
+
+    // The same by these descriptors, which are those of the channel.
+    #[inline(never)]
+    fn described_bytes(&self, these: &Descriptors, slots: u32) -> u64
+        requires these { self.now.bursts ≡ Bursts.Described these.now }
+        requires sound { AreSound these.now }
+        ensures { result ≡ bytes_in self.now slots }
+    {
+        if slots > MOST_SLOTS {
+            return self
+                .as_bursts()
+                .bytes(self.short_max(), self.sizes().short, slots);
+        }
+        let sizes = self.sizes();
+        let long = sizes.by_long.bytes(these.symbols, &these.long, slots);
+        if slots < self.short_max() {
+            return long.max(sizes.by_short.bytes(these.symbols, &these.short, slots));
+        }
+        long.max(sizes.short_bytes)
     }
 
     /// The most bytes that the grant cap leaves to a data grant of at most `slots` minislots.

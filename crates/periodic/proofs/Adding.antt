@@ -1,5 +1,6 @@
 -- One flow is added to those placed.
-use Rattle.std.proofs.Common.{◌≡◌, ap, ℕ, ◌+◌, ◌%◌, ◌<◌, ◌≤◌, true, nat_lt, List, [], ◌∷◌, ◌++◌, None, length, arith}
+use Rattle.std.proofs.Common.{◌≡◌, ap, ℕ, ◌+◌, ◌%◌, ◌<◌, ◌≤◌, true, false, nat_lt, List, [], ◌∷◌}
+use Rattle.std.proofs.Common.{◌++◌, None, length, arith}
 use Rattle.std.specs.List.{AllByRecursion}
 use Rattle.std.proofs.lemmas.Bool.{cond_both}
 use Rattle.std.proofs.lemmas.List.{length-map}
@@ -77,7 +78,7 @@ apart-with c k f (g ∷ placed) own free apart =
 module _ (c : Config) (placed : List Placed) (sid : ℕ) (spec : FlowSpec) (next : ℕ) (p : Placement) where
   -- the flow with its placement
   abbrev new : Placed
-  new = record { sid = sid; spec = spec; placement = p }
+  new = record { sid = sid; spec = spec; placement = p; rests = false }
 
   spots-free : (k : ℕ) → IsLawful c → IsPlacement c placed spec next p → AreBeside c k placed (spots_of c k new)
   spots-free k lawful is =
@@ -122,6 +123,7 @@ module _ (c : Config) (placed : List Placed) (sid : ℕ) (spec : FlowSpec) (next
       each = λ place within nominal.
           starts-alone place (starts_in c spec p place) (is.starts.each place within nominal);
     };
+    polled = λ rests. absurd (cc);
   }
 
   -- with it no frame has too many starts

@@ -1,7 +1,7 @@
 -- One flow among the flows of groups: put into one of them, and taken out of it.
-use Rattle.std.proofs.Common.{◌≡◌, ◌≢◌, refl, sym, ap, ◌∙◌, ℕ, zero, suc, ◌+◌, ◌<◌, Bool, true, false, ◌==◌}
+use Rattle.std.proofs.Common.{◌≡◌, ◌≢◌, refl, sym, ap, ◌∙◌, ℕ, zero, suc, ◌+◌, ◌<◌, Bool, true, false, not, ◌==◌}
 use Rattle.std.proofs.Common.{List, [], ◌∷◌, ◌++◌, append_assoc, length, map, get_or, set, take, drop, find, Some}
-use Rattle.std.proofs.Common.{arith}
+use Rattle.std.proofs.Common.{if◌then◌else◌, arith}
 use Rattle.std.specs.List.{AllByRecursion, remove}
 use Rattle.std.proofs.lemmas.Bool.{eq-eqb}
 use Rattle.std.proofs.lemmas.List.{map-append, take-append-drop, drop_more}
@@ -15,6 +15,22 @@ use Rattle.periodic.specs.Groups.{flows_in, in_order, HasOneMore}
 use Rattle.periodic.proofs.Joined.{all-left}
 use Rattle.periodic.proofs.InOrder.{HaveNot, in_order-with, all-in_order, others-differ, not-found, found-none}
 use Rattle.periodic.proofs.InOrder.{found-with, without-with}
+
+-- A flow of this SID stands among the placed flows: it is found, and put in beside the others it stands where it stood
+pub record StandsAmong (sid : ℕ) (f : Placed) (placed : List Placed) : Type 0 where
+  pub own : f.sid ≡ sid
+  pub found : find (λ g. g.sid == sid) placed ≡ Some f
+  pub back : placed ≡ with_placed f (without sid placed)
+
+gone-behind : (sid : ℕ) (g : Placed) (rest : List Placed) (b : Bool) → (g.sid == sid) ≡ b → IsNotPlaced sid rest
+    → IsNotPlaced sid (if not b then g ∷ rest else rest)
+gone-behind sid g rest true test none = none
+gone-behind sid g rest false test none = rw test none
+
+-- no flow of the SID is among the others
+pub gone : (sid : ℕ) (placed : List Placed) → IsNotPlaced sid (without sid placed)
+gone sid [] = refl
+gone sid (g ∷ placed) = gone-behind sid g (without sid placed) (g.sid == sid) refl (gone sid placed)
 
 -- The flows of a group stand between those of other groups, and so do the flows that another has in its place
 record HasParts (groups : List Group) (i : ℕ) (g h : Group) : Type 0 where
@@ -65,6 +81,14 @@ module _ (groups : List Group) (i : ℕ) (g h : Group) (within : i < length grou
             ∙ sym (append_assoc parts.before g.flows.items (f ∷ parts.after));
       }
 
+  split-at : (j : ℕ) → j < length g.flows.items → f ≡ get_or g.flows.items j f
+      → g.flows.items ≡ take j g.flows.items ++ f ∷ drop (j + 1) g.flows.items
+  split-at j low at =
+      let items = g.flows.items in
+      sym (take-append-drop j items)
+      ∙ ap (λ fs. take j items ++ fs)
+      (drop_more items j f low ∙ ap (λ (e : PlacedFlow). e ∷ drop (j + 1) items) (sym at))
+
   -- a group that loses the flow at a place
   pub flow-out : (j : ℕ) → j < length g.flows.items → f ≡ get_or g.flows.items j f
       → h.flows.items ≡ remove g.flows.items j → HasOneMore f (flows_in (set groups i h)) (flows_in groups)
@@ -74,9 +98,6 @@ module _ (groups : List Group) (i : ℕ) (g h : Group) (within : i < length grou
       let front = take j items in
       let back = drop (j + 1) items in
       let next : suc j ≡ j + 1 = omega arith in
-      let split : items ≡ front ++ f ∷ back =
-      sym (take-append-drop j items)
-      ∙ ap (λ fs. front ++ fs) (drop_more items j f low ∙ ap (λ (e : PlacedFlow). e ∷ back) (sym at)) in
       record {
         before = parts.before ++ front;
         after = back ++ parts.after;
@@ -84,10 +105,31 @@ module _ (groups : List Group) (i : ℕ) (g h : Group) (within : i < length grou
             (less ∙ ap (λ n. front ++ drop n items) next)
             ∙ ap (λ fs. parts.before ++ fs) (append_assoc front back parts.after)
             ∙ sym (append_assoc parts.before front (back ++ parts.after));
-        more = parts.old ∙ ap (λ fs. parts.before ++ (fs ++ parts.after)) split
+        more = parts.old ∙ ap (λ fs. parts.before ++ (fs ++ parts.after)) (split-at j low at)
             ∙ ap (λ fs. parts.before ++ fs) (append_assoc front (f ∷ back) parts.after)
             ∙ sym (append_assoc parts.before front (f ∷ (back ++ parts.after)));
       }
+
+-- a flow of a group stands among those of all
+pub flow-among : (groups : List Group) (i : ℕ) (g : Group) (f : PlacedFlow) (j : ℕ) → i < length groups
+    → g ≡ get_or groups i g → j < length g.flows.items → f ≡ get_or g.flows.items j f
+    → (others : List PlacedFlow) × HasOneMore f others (flows_in groups)
+flow-among groups i g f j within is low at =
+    let parts = parts-at groups i g g within is in
+    let items = g.flows.items in
+    let front = take j items in
+    let back = drop (j + 1) items in (
+      (parts.before ++ front) ++ (back ++ parts.after),
+      record {
+        before = parts.before ++ front;
+        after = back ++ parts.after;
+        less = refl;
+        more = parts.old
+            ∙ ap (λ fs. parts.before ++ (fs ++ parts.after)) (split-at groups i g g within is f j low at)
+            ∙ ap (λ fs. parts.before ++ fs) (append_assoc front (f ∷ back) parts.after)
+            ∙ sym (append_assoc parts.before front (f ∷ (back ++ parts.after)));
+      },
+    )
 
 -- what holds of each flow holds of each in order of SID
 all-order : (P : Placed → Type 0) (flows : List Placed) → AllByRecursion P flows → AllByRecursion P (in_order flows)
@@ -153,6 +195,26 @@ module _ (f : PlacedFlow) (others flows : List PlacedFlow) (one : HasOneMore f o
       let differ = others-differ (placed_of f) front back (rw flows-are at up) in
       rw (put-among differ.0, ← is)
       (sym (without-with f.sid (placed_of f) (in_order (map placed_of others)) refl (others-not up)))
+
+  -- it stands among them
+  pub order-stands : (sid : ℕ) → f.sid ≡ sid → Ascend (in_order (map placed_of flows))
+      → StandsAmong sid (placed_of f) (in_order (map placed_of flows))
+  order-stands sid is up =
+      let differ = others-differ (placed_of f) front back (rw flows-are at up) in
+      record {
+        own = is;
+        found = order-found sid is up;
+        back = put-among differ.0 ∙ ap (with_placed (placed_of f)) (order-without sid is up);
+      }
+
+-- another flow of its SID in its place stands beside the others
+pub order-instead : (sid : ℕ) (f g : PlacedFlow) (others flows new : List PlacedFlow) → HasOneMore f others flows
+    → HasOneMore g others new → f.sid ≡ sid → g.sid ≡ sid → Ascend (in_order (map placed_of flows))
+    → in_order (map placed_of new) ≡ with_placed (placed_of g) (without sid (in_order (map placed_of flows)))
+order-instead sid f g others flows new one more is same up =
+    let left = order-without f others flows one sid is up in
+    order-with g others new more (rw (same, left) (gone sid (in_order (map placed_of flows))))
+    ∙ ap (with_placed (placed_of g)) left
 
 -- where no flow has the SID none is placed
 pub none-placed : (sid : ℕ) (flows : List PlacedFlow) → AllByRecursion (λ f. (f.sid == sid) ≡ false) flows

@@ -5,7 +5,7 @@ use Rattle.std.proofs.lemmas.List.{length-map, map-append, take_more}
 use Rattle.std.proofs.lemmas.List.{take_more_set, drop-drop}
 use Rattle.std.proofs.Math.Nat.{mod-eq_of_lt}
 use Rattle.minislots.specs.declared.config.Config.{Config}
-use Rattle.periodic.specs.Placement.{Placed, starts_in, spot_at, spots_of}
+use Rattle.periodic.specs.Placement.{Placed, starts_in, spot_at, spots_of, due_starts, due_at, due_of}
 
 -- one spot more is written behind those before it
 pub put-more : {X : Type 0} (h : ℕ → X) (starts : List ℕ) (i : ℕ) (front spots : List X) (next : ℕ) (s : X)
@@ -36,3 +36,14 @@ pub count-here : (c : Config) (place : ℕ) (f : Placed) → place < c.cycle
     → length (spots_of c place f) ≡ length (starts_in c f.spec f.placement place)
 count-here c place f within =
     ap length (spots-here c place f within) ∙ length-map (starts_in c f.spec f.placement place) (spot_at c f)
+
+-- what a flow is to have of a frame of the cycle is one spot for each start that is due there
+pub due-here : (c : Config) (place : ℕ) (f : Placed) → place < c.cycle
+    → due_of c place f ≡ map (due_at c f) (due_starts c f place)
+due-here c place f within = ap (λ n. map (due_at c f) (due_starts c f n)) (mod-eq_of_lt within)
+
+-- as many as these
+pub count-due : (c : Config) (place : ℕ) (f : Placed) → place < c.cycle
+    → length (due_of c place f) ≡ length (due_starts c f place)
+count-due c place f within =
+    ap length (due-here c place f within) ∙ length-map (due_starts c f place) (due_at c f)

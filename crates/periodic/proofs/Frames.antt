@@ -10,6 +10,7 @@ use Rattle.minislots.proofs.Bounds.{bounds_of}
 use Rattle.sched_calls.specs.FlowSpec.{interval_frames, jitter_slots, periodic_slots, grants_of}
 use Rattle.periodic.specs.declared.placement.Spot.{Spot}
 use Rattle.periodic.specs.Placement.{Placed, phase_of, offset_of, starts_in, spot_at, spots_of, spots_in}
+use Rattle.periodic.specs.Placement.{due_starts, due_at, due_in}
 use Rattle.periodic.specs.Placement.{IsLawfulStart, FollowFrom, HasLawfulStarts}
 use Rattle.periodic.specs.Table.{IsSoundPlaced, IsWithinFrame, IsApart, AreApart}
 use Rattle.periodic.proofs.Parameters.{places_of}
@@ -106,3 +107,8 @@ spots_of-place c k f = ap (λ n. map (spot_at c f) (starts_in c f.spec f.placeme
 pub spots_in-place : (c : Config) (k : ℕ) (placed : List Placed) → spots_in c (k % c.cycle) placed ≡ spots_in c k placed
 spots_in-place c k placed =
     ap (λ n. flat_map (λ (f : Placed). map (spot_at c f) (starts_in c f.spec f.placement n)) placed) (mod-mod k c.cycle)
+
+-- and of a frame they are to have the same
+pub due_in-place : (c : Config) (k : ℕ) (placed : List Placed) → due_in c (k % c.cycle) placed ≡ due_in c k placed
+due_in-place c k placed =
+    ap (λ n. flat_map (λ (f : Placed). map (due_at c f) (due_starts c f n)) placed) (mod-mod k c.cycle)

@@ -13,11 +13,12 @@ use Rattle.flow_book.proofs.Changes.{all-set}
 use Rattle.periodic.specs.declared.group.Group.{Group}
 use Rattle.periodic.specs.declared.placement.Spot.{Spot}
 use Rattle.periodic.specs.declared.spots.PlacedFlow.{PlacedFlow}
-use Rattle.periodic.specs.Placement.{starts_in, spot_at, spots_of, spots_in}
+use Rattle.periodic.specs.Placement.{Placed, starts_in, spot_at, spots_of, due_of, due_in}
 use Rattle.periodic.specs.Fields.{placed_of}
 use Rattle.periodic.specs.Groups.{flows_in, IsSoundMember, IsSoundGroup, AreSoundGroups, IsFlowAt}
 use Rattle.periodic.proofs.Counting.{no-starts}
 use Rattle.periodic.proofs.Joined.{all-append}
+use Rattle.periodic.proofs.Resting.{few-due}
 
 -- a flow of a sound group is sound
 pub member-at : (c : Config) (g : Group) (given : List PlacedFlow) (i : ℕ) (f : PlacedFlow) → given ≡ g.flows.items
@@ -76,36 +77,45 @@ all-more P groups i g within is before here =
     rw (more, flat_map-append (λ (h : Group). h.flows.items) (take i groups) (g ∷ []))
     (all-append P (flows_in (take i groups)) (g.flows.items ++ []) before (all-append P g.flows.items [] here tt))
 
--- what the flows of a group take of frame k
-abbrev pub spots_here : Config → ℕ → Group → List Spot
-spots_here c k g = spots_in c k (map placed_of g.flows.items)
+-- what the flows of a group are to have of frame k
+abbrev pub due_here : Config → ℕ → Group → List Spot
+due_here c k g = due_in c k (map placed_of g.flows.items)
 
--- the flows of the groups have the spots of one group after the other
-pub spots-grouped : (c : Config) (k : ℕ) (groups : List Group)
-    → spots_in c k (map placed_of (flows_in groups)) ≡ flat_map (spots_here c k) groups
-spots-grouped c k [] = refl
-spots-grouped c k (g ∷ groups) =
-    ap (spots_in c k) (map-append placed_of g.flows.items (flows_in groups))
-    ∙ flat_map-append (spots_of c k) (map placed_of g.flows.items) (map placed_of (flows_in groups))
-    ∙ ap (λ ss. spots_here c k g ++ ss) (spots-grouped c k groups)
+-- the flows of the groups are to have what one group after the other is
+pub due-grouped : (c : Config) (k : ℕ) (groups : List Group)
+    → due_in c k (map placed_of (flows_in groups)) ≡ flat_map (due_here c k) groups
+due-grouped c k [] = refl
+due-grouped c k (g ∷ groups) =
+    ap (due_in c k) (map-append placed_of g.flows.items (flows_in groups))
+    ∙ flat_map-append (due_of c k) (map placed_of g.flows.items) (map placed_of (flows_in groups))
+    ∙ ap (λ ss. due_here c k g ++ ss) (due-grouped c k groups)
+
+empty-of : {X : Type 0} (xs : List X) → length xs ≤ 0 → xs ≡ []
+empty-of [] few = refl
+empty-of (x ∷ xs) few = absurd (omega (arith, few))
+
+no-due : (c : Config) (place : ℕ) (f : Placed) → starts_in c f.spec f.placement place ≡ []
+    → length (due_of c place f) ≤ length (spots_of c place f) → place ≡ place % c.cycle → due_of c place f ≡ []
+no-due c place f none few here =
+    let no : spots_of c place f ≡ [] =
+    ap (λ n. map (spot_at c f) (starts_in c f.spec f.placement n)) (sym here) ∙ ap (map (spot_at c f)) none in
+    empty-of (due_of c place f) (omega (arith, few, ap length no))
 
 none-of : (c : Config) (place frames first : ℕ) (flows : List PlacedFlow) → (place % frames ≡ first → ⊥)
     → place ≡ place % c.cycle → AllByRecursion (IsSoundMember c frames first) flows
-    → spots_in c place (map placed_of flows) ≡ []
+    → due_in c place (map placed_of flows) ≡ []
 none-of c place frames first [] differ here each = refl
 none-of c place frames first (f ∷ flows) differ here each =
     let member = each.0 in
     let no : starts_in c f.spec f.placement place ≡ [] = no-starts c f.spec f.placement place
     (λ e. differ (ap (λ n. place % n) (sym member.interval ∙ member.flow.times.interval)
     ∙ e ∙ sym member.flow.times.phase ∙ member.phase)) in
-    let none : spots_of c place (placed_of f) ≡ [] =
-    ap (λ n. map (spot_at c (placed_of f)) (starts_in c f.spec f.placement n)) (sym here)
-    ∙ ap (map (spot_at c (placed_of f))) no in
-    ap (λ ss. ss ++ spots_in c place (map placed_of flows)) none
+    ap (λ ss. ss ++ due_in c place (map placed_of flows))
+    (no-due c place (placed_of f) no (few-due c place (placed_of f)) here)
     ∙ none-of c place frames first flows differ here each.1
 
--- a group takes nothing of a frame that is none of its phase
-pub spots-none : (c : Config) (place : ℕ) (g : Group) → (place % g.interval ≡ g.phase → ⊥)
-    → place ≡ place % c.cycle → IsSoundGroup c g → spots_here c place g ≡ []
-spots-none c place g differ here sound =
+-- a group is to have nothing of a frame that is none of its phase
+pub due-none : (c : Config) (place : ℕ) (g : Group) → (place % g.interval ≡ g.phase → ⊥)
+    → place ≡ place % c.cycle → IsSoundGroup c g → due_here c place g ≡ []
+due-none c place g differ here sound =
     none-of c place g.interval g.phase g.flows.items differ here sound.each

@@ -1,7 +1,7 @@
 -- Flows in order of SID, whatever the order in which they were put in.
 use Rattle.std.proofs.Common.{◌≡◌, ◌≢◌, refl, sym, ap, ◌∙◌, ℕ, ◌<◌, ◌≤◌, false, ◌==◌, nat_lt}
 use Rattle.std.proofs.Common.{List, [], ◌∷◌, ◌++◌, append_assoc, find, length, Some, inl, inr, arith}
-use Rattle.std.specs.List.{AllByRecursion}
+use Rattle.std.specs.List.{AllByRecursion, flat_map}
 use Rattle.std.specs.List.Sorted.{IsPermutation}
 use Rattle.std.proofs.lemmas.Bool.{cases_Bool, cond_both, eq-eqb, ne_eqb}
 use Rattle.std.proofs.lemmas.Bool.Decides.{nat_tests}
@@ -11,7 +11,7 @@ use Rattle.std.proofs.lemmas.List.Sums.{sum_by-cons}
 use Rattle.minislots.specs.declared.config.Config.{Config}
 use Rattle.minislots.specs.Config.{IsLawful}
 use Rattle.sched_calls.specs.FlowSpec.{grants_of}
-use Rattle.periodic.specs.Placement.{Placed, spots_of, spots_in}
+use Rattle.periodic.specs.Placement.{Placed}
 use Rattle.periodic.specs.Table.{placed_grants, IsNotPlaced, with_placed, without, Ascend, IsSoundPlaced}
 use Rattle.periodic.specs.Groups.{in_order}
 use Rattle.periodic.proofs.Parameters.{places_of}
@@ -127,34 +127,31 @@ without-with sid f (g ∷ placed) is none =
     (λ low. rw (eq-eqb f.sid sid is) (without-none sid (g ∷ placed) none))
     (λ high. rw other (ap (λ fs. g ∷ fs) (without-with sid f placed is none.1)))
 
--- with a flow more a frame has its spots more, in another order
-spots-with-permuted : (c : Config) (k : ℕ) (f : Placed) (placed : List Placed)
-    → IsPermutation (spots_in c k (with_placed f placed)) (spots_of c k f ++ spots_in c k placed)
-spots-with-permuted c k f [] = IsPermutation-refl (spots_of c k f ++ [])
-spots-with-permuted c k f (g ∷ placed) =
-    let mine = spots_of c k f in
-    let first = spots_of c k g in
-    let rest = spots_in c k placed in
-    cond_both (nat_lt f.sid g.sid) (f ∷ g ∷ placed) (g ∷ with_placed f placed)
-    (λ fs. IsPermutation (spots_in c k fs) (mine ++ (first ++ rest)))
-    (λ low. IsPermutation-refl (mine ++ (first ++ rest)))
-    (λ high. IsPermutation-trans (first ++ spots_in c k (with_placed f placed)) (first ++ (mine ++ rest))
-    (mine ++ (first ++ rest))
-    (IsPermutation-append_right first (spots_in c k (with_placed f placed)) (mine ++ rest)
-    (spots-with-permuted c k f placed))
-    (rw (← append_assoc first mine rest, ← append_assoc mine first rest)
-    (IsPermutation-append_left rest (first ++ mine) (mine ++ first) (IsPermutation-append_comm first mine))))
+module _ {X : Type 0} (of : Placed → List X) where
+  -- what each flow has, with a flow more, is its own more, in another order
+  with-permuted : (f : Placed) (placed : List Placed)
+      → IsPermutation (flat_map of (with_placed f placed)) (of f ++ flat_map of placed)
+  with-permuted f [] = IsPermutation-refl (of f ++ [])
+  with-permuted f (g ∷ placed) =
+      let mine = of f in
+      let first = of g in
+      let rest = flat_map of placed in
+      cond_both (nat_lt f.sid g.sid) (f ∷ g ∷ placed) (g ∷ with_placed f placed)
+      (λ fs. IsPermutation (flat_map of fs) (mine ++ (first ++ rest)))
+      (λ low. IsPermutation-refl (mine ++ (first ++ rest)))
+      (λ high. IsPermutation-trans (first ++ flat_map of (with_placed f placed)) (first ++ (mine ++ rest))
+      (mine ++ (first ++ rest))
+      (IsPermutation-append_right first (flat_map of (with_placed f placed)) (mine ++ rest) (with-permuted f placed))
+      (rw (← append_assoc first mine rest, ← append_assoc mine first rest)
+      (IsPermutation-append_left rest (first ++ mine) (mine ++ first) (IsPermutation-append_comm first mine))))
 
--- flows in order of SID have the same spots in a frame, in another order
-pub spots-permuted : (c : Config) (k : ℕ) (flows : List Placed)
-    → IsPermutation (spots_in c k (in_order flows)) (spots_in c k flows)
-spots-permuted c k [] = IsPermutation-refl []
-spots-permuted c k (f ∷ flows) =
-    IsPermutation-trans (spots_in c k (with_placed f (in_order flows)))
-    (spots_of c k f ++ spots_in c k (in_order flows)) (spots_of c k f ++ spots_in c k flows)
-    (spots-with-permuted c k f (in_order flows))
-    (IsPermutation-append_right (spots_of c k f) (spots_in c k (in_order flows)) (spots_in c k flows)
-    (spots-permuted c k flows))
+  -- flows in order of SID have the same, in another order
+  pub order-permuted : (flows : List Placed) → IsPermutation (flat_map of (in_order flows)) (flat_map of flows)
+  order-permuted [] = IsPermutation-refl []
+  order-permuted (f ∷ flows) =
+      IsPermutation-trans (flat_map of (with_placed f (in_order flows))) (of f ++ flat_map of (in_order flows))
+      (of f ++ flat_map of flows) (with-permuted f (in_order flows))
+      (IsPermutation-append_right (of f) (flat_map of (in_order flows)) (flat_map of flows) (order-permuted flows))
 
 -- there are no more placed flows than grants per interval
 pub flows-most : (c : Config) (placed : List Placed) → IsLawful c → AllByRecursion (IsSoundPlaced c) placed

@@ -32,3 +32,8 @@ pub mod Among
 pub mod Grouped
 pub mod Filled
 pub mod Numbered
+pub mod Resting
+pub mod Rests
+pub mod Told
+pub mod Moved
+pub mod Kept

@@ -1,5 +1,5 @@
 -- A worked example of a frame with as many starts as a frame may have.
-use Rattle.std.proofs.Common.{◌≡◌, sym, ℕ, ◌+◌, ◌≤◌, List, [], ◌∷◌, length, refl, lit<, arith}
+use Rattle.std.proofs.Common.{◌≡◌, sym, ℕ, ◌+◌, ◌≤◌, false, List, [], ◌∷◌, length, refl, lit<, arith}
 use Rattle.sched_calls.specs.declared.spec.FlowSpec.TheVariants.{Unsolicited}
 use Rattle.sched_calls.proofs.Base.{base}
 use Rattle.sched_calls.specs.declared.placement.Placement.{Placement}
@@ -13,6 +13,7 @@ eight sid = record {
   spec = Unsolicited 200 10000 800 8;
   placement =
       placement 804 (4 ∷ 5 ∷ 6 ∷ 7 ∷ 8 ∷ 9 ∷ 10 ∷ 11 ∷ 4 ∷ 5 ∷ 6 ∷ 7 ∷ 8 ∷ 9 ∷ 10 ∷ 11 ∷ []);
+  rests = false;
 }
 
 -- five of them have forty starts in the first frame, and as many in the eleventh

@@ -1,5 +1,5 @@
 -- Worked examples of placements with two grants in each nominal frame.
-use Rattle.std.proofs.Common.{◌≡◌, [], ◌∷◌, refl, lit<}
+use Rattle.std.proofs.Common.{◌≡◌, false, [], ◌∷◌, refl, lit<}
 use Rattle.std.proofs.Common.{lit≤, arith}
 use Rattle.sched_calls.specs.declared.spec.FlowSpec.{FlowSpec}
 use Rattle.sched_calls.specs.declared.spec.FlowSpec.TheVariants.{Unsolicited}
@@ -38,7 +38,7 @@ two_grants_of_a_frame_stand_one_behind_the_other = record {
 
 -- what they take of the first frame
 pub the_spots_of_a_flow_with_two_grants :
-    spots_in base 20 (record { sid = 5; spec = double_voice; placement = placement 804 (4 ∷ 19 ∷ 4 ∷ 19 ∷ []) } ∷ [])
+    spots_in base 20 (record { sid = 5; spec = double_voice; placement = placement 804 (4 ∷ 19 ∷ 4 ∷ 19 ∷ []); rests = false } ∷ [])
     ≡ voice_at 5 4 ∷ voice_at 5 19 ∷ []
 the_spots_of_a_flow_with_two_grants = refl
 

@@ -1,5 +1,5 @@
 -- A worked example of a flow without a place.
-use Rattle.std.proofs.Common.{◌≡◌, ℕ, ◌≤◌, ◌%◌, ◌/◌, List, [], ◌∷◌, inl, inr, lit<, arith}
+use Rattle.std.proofs.Common.{◌≡◌, ℕ, ◌≤◌, ◌%◌, ◌/◌, false, List, [], ◌∷◌, inl, inr, lit<, arith}
 use Rattle.sched_calls.specs.declared.spec.FlowSpec.{FlowSpec}
 use Rattle.sched_calls.specs.declared.spec.FlowSpec.TheVariants.{Unsolicited}
 use Rattle.sched_calls.proofs.Base.{base}
@@ -18,6 +18,7 @@ full_placed = record {
     reference = 804;
     starts = 4 ∷ 4 ∷ 4 ∷ 4 ∷ 4 ∷ 4 ∷ 4 ∷ 4 ∷ 4 ∷ 4 ∷ 4 ∷ 4 ∷ 4 ∷ 4 ∷ 4 ∷ 4 ∷ 4 ∷ 4 ∷ 4 ∷ 4 ∷ [];
   };
+  rests = false;
 }
 
 -- grants of one minislot of bytes in each frame

@@ -1,5 +1,5 @@
 -- Worked examples of lawful placements, and of some that are not lawful.
-use Rattle.std.proofs.Common.{◌≡◌, ℕ, ◌+◌, ◌%◌, ◌<◌, None, Some, List, [], ◌∷◌, refl, sym, subst, inl, inr, lit<}
+use Rattle.std.proofs.Common.{◌≡◌, ℕ, ◌+◌, ◌%◌, ◌<◌, None, Some, List, false, [], ◌∷◌, refl, sym, subst, inl, inr, lit<}
 use Rattle.std.proofs.Common.{lit≤, arith}
 use Rattle.std.proofs.lemmas.Bool.{cases_lt}
 use Rattle.minislots.specs.declared.config.Config.{Config}
@@ -72,7 +72,7 @@ the_first_flow_stands_behind_the_requests = record {
 
 -- the first flow's place
 abbrev pub first_placed : Placed
-first_placed = record { sid = 5; spec = voice; placement = placement 804 (4 ∷ 4 ∷ []) }
+first_placed = record { sid = 5; spec = voice; placement = placement 804 (4 ∷ 4 ∷ []); rests = false }
 
 -- a grant of these flows in a frame
 abbrev pub voice_at : ℕ → ℕ → Spot
@@ -111,7 +111,7 @@ a_placement_with_a_start_too_few_is_not_lawful p = absurd (omega (arith, p.start
 
 -- the second flow's place
 abbrev pub second_placed : Placed
-second_placed = record { sid = 6; spec = voice; placement = placement 804 (19 ∷ 19 ∷ []) }
+second_placed = record { sid = 6; spec = voice; placement = placement 804 (19 ∷ 19 ∷ []); rests = false }
 
 -- what the two take of the first frame
 pub the_spots_of_two_flows : spots_in base 20 (first_placed ∷ second_placed ∷ []) ≡ voice_at 5 4 ∷ voice_at 6 19 ∷ []
@@ -157,7 +157,7 @@ four_polls_stand_behind_the_requests = record {
 
 -- the polled flow's place
 abbrev pub polled_placed : Placed
-polled_placed = record { sid = 9; spec = polling; placement = placement 804 (4 ∷ 4 ∷ 4 ∷ 4 ∷ []) }
+polled_placed = record { sid = 9; spec = polling; placement = placement 804 (4 ∷ 4 ∷ 4 ∷ 4 ∷ []); rests = false }
 
 -- it takes two minislots of the first frame, and nothing of the next
 pub the_spots_of_a_polled_flow : (spots_in base 20 (polled_placed ∷ [])

@@ -10,10 +10,10 @@ use Rattle.std.proofs.lemmas.List.Sorted.{IsPermutation-keeps, All-permutation}
 use Rattle.minislots.specs.declared.config.Config.{Config}
 use Rattle.minislots.specs.Config.{IsLawful}
 use Rattle.periodic.specs.declared.placement.Spot.{Spot}
-use Rattle.periodic.specs.Placement.{Placed, spots_in}
+use Rattle.periodic.specs.Placement.{Placed, due_in}
 use Rattle.periodic.specs.Table.{IsWithinFrame, IsApart, AreApart, FollowInTurn, AreSound}
 use Rattle.periodic.proofs.Joined.{turned}
-use Rattle.periodic.proofs.Frames.{spots-within}
+use Rattle.periodic.proofs.Resting.{due-within, due-apart}
 
 -- any two of the first n are apart
 abbrev AreApartAt : ℕ → (ℕ → Spot) → Type 0
@@ -91,19 +91,20 @@ within-permuted c xs ys moved within =
 
 -- The spots of frame k, one after the other
 pub record IsFrameOf (c : Config) (k : ℕ) (placed : List Placed) (spots : List Spot) : Type 0 where
-  pub permuted : IsPermutation (spots_in c k placed) spots
+  pub permuted : IsPermutation (due_in c k placed) spots
   pub in_turn : FollowInTurn spots
   pub within : AllByRecursion (IsWithinFrame c) spots
 
--- what the flows take of it, sorted, is the frame
+-- what the flows are to have of it, sorted, is the frame
 pub frame-sorted : (c : Config) (k : ℕ) (placed : List Placed) (xs ys : List Spot) → IsLawful c → AreSound c placed
-    → xs ≡ spots_in c k placed → IsPermutation xs ys → IsNonDecreasingBy (λ s. s.offset) ys
+    → xs ≡ due_in c k placed → IsPermutation xs ys → IsNonDecreasingBy (λ s. s.offset) ys
     → IsFrameOf c k placed ys
 frame-sorted c k placed xs ys lawful sound is moved up =
-    let moved' : IsPermutation (spots_in c k placed) ys = rw (← is) moved in
-    let within = within-permuted c (spots_in c k placed) ys moved' (spots-within c k placed lawful sound.each) in
+    let moved' : IsPermutation (due_in c k placed) ys = rw (← is) moved in
+    let within = within-permuted c (due_in c k placed) ys moved' (due-within c k placed lawful sound.each) in
     record {
       permuted = moved';
-      in_turn = sorted-in-turn c (spots_in c k placed) ys moved' (sound.apart k) within up;
+      in_turn = sorted-in-turn c (due_in c k placed) ys moved'
+          (due-apart c k placed sound.each (sound.apart k)) within up;
       within = within;
     }

@@ -14,7 +14,7 @@ placement_at reference starts = record { reference = reference; starts = starts 
 
 -- the placed flow that the fields stand for
 abbrev pub placed_of : PlacedFlow → Placed
-placed_of f = record { sid = f.sid; spec = f.spec; placement = f.placement }
+placed_of f = record { sid = f.sid; spec = f.spec; placement = f.placement; rests = f.rests }
 
 -- What a placed flow keeps beside its placement follows from both, on a lawful channel
 pub record KeepsTimes (c : Config) (f : PlacedFlow) : Type 0 where
@@ -22,6 +22,7 @@ pub record KeepsTimes (c : Config) (f : PlacedFlow) : Type 0 where
   pub interval : f.interval ≡ interval_frames c f.spec
   pub phase : f.phase ≡ phase_of c f.spec f.placement
   pub slots : f.slots ≡ periodic_slots c f.spec
+  pub poll_slots : f.poll_slots ≡ c.poll_slots
   pub grants : f.grants ≡ grants_of f.spec
 
 -- A flow that is soundly placed, and what is kept beside its placement

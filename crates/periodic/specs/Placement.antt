@@ -1,6 +1,6 @@
 -- Lawful placements of periodic flows: nominal intervals and tolerated jitter, in a cycle of frames.
-use Rattle.std.specs.Prelude.{◌≡◌, ℕ, zero, suc, ◌+◌, ◌*◌, ◌/◌, ◌%◌, ◌<◌, ◌≤◌, ◌⊎◌, ◌==◌, List, [], ◌∷◌, map}
-use Rattle.std.specs.Prelude.{length, take, drop, if◌then◌else◌}
+use Rattle.std.specs.Prelude.{◌≡◌, ℕ, zero, suc, ◌+◌, ◌*◌, ◌/◌, ◌%◌, ◌<◌, ◌≤◌, ◌⊎◌, Bool, ◌==◌, List, [], ◌∷◌}
+use Rattle.std.specs.Prelude.{map, length, take, drop, None, if◌then◌else◌}
 use Rattle.std.specs.List.{AllByRecursion, flat_map}
 use Rattle.minislots.specs.declared.config.Config.{Config}
 use Rattle.sched_calls.specs.declared.spec.FlowSpec.{FlowSpec}
@@ -9,11 +9,12 @@ use Rattle.sched_calls.specs.declared.placement.Placement.{Placement}
 use Rattle.periodic.specs.declared.TheConstants.{MAX_SPOTS}
 use Rattle.periodic.specs.declared.placement.Spot.{Spot}
 
--- a periodic flow with its placement
+-- a periodic flow with its placement, and whether it rests
 pub record Placed : Type 0 where
   pub sid : ℕ
   pub spec : FlowSpec
   pub placement : Placement
+  pub rests : Bool
 
 -- the numbers from first on, so many of them
 abbrev pub count_from : ℕ → ℕ → List ℕ
@@ -53,6 +54,28 @@ spots_of c k flow = map (spot_at c flow) (starts_in c flow.spec flow.placement (
 -- what the placed flows take of frame k
 abbrev pub spots_in : Config → ℕ → List Placed → List Spot
 spots_in c k table = flat_map (spots_of c k) table
+
+-- the poll of a flow that rests, from this start on
+abbrev pub poll_at : Config → Placed → ℕ → Spot
+poll_at c flow start = record { sid = flow.sid; size = None; offset = start; slots = c.poll_slots }
+
+-- where a placed flow is to have something in the frame at this place of the cycle: at its starts there, or where it
+-- rests at the first of them alone
+abbrev pub due_starts : Config → Placed → ℕ → List ℕ
+due_starts c flow place = if flow.rests then take 1 (starts_in c flow.spec flow.placement place)
+    else starts_in c flow.spec flow.placement place
+
+-- what it is to have there: what it takes, or where it rests a poll
+abbrev pub due_at : Config → Placed → ℕ → Spot
+due_at c flow start = if flow.rests then poll_at c flow start else spot_at c flow start
+
+-- what a placed flow is to have of frame k: what it takes, or where it rests a poll at the first of its starts
+abbrev pub due_of : Config → ℕ → Placed → List Spot
+due_of c k flow = map (due_at c flow) (due_starts c flow (k % c.cycle))
+
+-- what the placed flows are to have of frame k
+abbrev pub due_in : Config → ℕ → List Placed → List Spot
+due_in c k table = flat_map (due_of c k) table
 
 -- none of these spots has one of the minislots
 abbrev pub AreFree : List Spot → ℕ → ℕ → Type 0
@@ -110,3 +133,12 @@ pub record IsPlacement (c : Config) (table : List Placed) (spec : FlowSpec) (nex
 -- no placement is lawful
 abbrev pub NoPlacement : Config → List Placed → FlowSpec → ℕ → Type 0
 NoPlacement c table spec next = (p : Placement) → IsPlacement c table spec next p → ⊥
+
+-- A placement that stands, told from the start of a frame on, for a flow of these parameters: its starts, with the
+-- flow's first nominal time from there on as the reference
+pub record IsToldFrom (c : Config) (spec : FlowSpec) (next : ℕ) (stands p : Placement) : Type 0 where
+  pub starts : p.starts ≡ stands.starts
+  pub not_before : next ≤ p.reference
+  pub first : p.reference < next + interval_frames c spec * c.frame
+  pub phase : phase_of c spec p ≡ phase_of c spec stands
+  pub offset : offset_of c p ≡ offset_of c stands

@@ -1,12 +1,12 @@
 //! The placed flows in groups: those of one interval and one phase have the same frames.
 
-ghost use Rattle.std.specs.Prelude.{◌≡◌, ℕ, ◌<◌, ◌≤◌, ◌+◌, ◌%◌, ◌++◌, ◌==◌, [], map, take, drop, length, position};
-ghost use Rattle.std.specs.Prelude.{false, IfOk, OnErr, IfSome, IfNone};
+ghost use Rattle.std.specs.Prelude.{◌≡◌, ℕ, ◌<◌, ◌≤◌, ◌+◌, ◌%◌, ◌++◌, ◌==◌, List, map, take, drop, length};
+ghost use Rattle.std.specs.Prelude.{position, false, IfOk, OnErr, IfSome, IfNone};
 ghost use Rattle.std.specs.List.{AllByRecursion, remove};
 ghost use Rattle.minislots.specs.declared.config.Config.{Config};
 ghost use Rattle.minislots.specs.Config.{IsLawful};
 ghost use Rattle.periodic.specs.declared.TheConstants.{MAX_SPOTS};
-ghost use Rattle.periodic.specs.Placement.{spots_in};
+ghost use Rattle.periodic.specs.Placement.{due_in};
 ghost use Rattle.periodic.specs.Fields.{placed_of, IsSoundFlow};
 ghost use Rattle.periodic.specs.Groups.{flows_in, IsSoundGroup, AreSoundGroups, HasOneMore, IsGroupAt, HasRoomAt};
 ghost use Rattle.periodic.specs.Groups.{IsFlowAt, HaveFlows};
@@ -29,12 +29,13 @@ pub(crate) struct Group {
 }
 
 impl Group {
-    // Writes what the flows take of the frame at this place behind so many spots, and answers how many there are then.
+    // Writes what the flows are to have of the frame at this place behind so many spots, and answers how many there are
+    // then.
     fn put(&self, place: u64, spots: &mut [Spot; MAX_SPOTS], count: usize) -> usize
         requires sound { (c : Config) × IsSoundGroup c self.now × (place < c.cycle)
-            × (count + length (spots_in c place (map placed_of self.now.flows.items)) ≤ MAX_SPOTS) }
+            × (count + length (due_in c place (map placed_of self.now.flows.items)) ≤ MAX_SPOTS) }
         ensures spots { (c : Config) → IsSoundGroup c self.now → place < c.cycle → take result
-            spots.new ≡ take count spots.old ++ spots_in c place (map placed_of self.now.flows.items) }
+            spots.new ≡ take count spots.old ++ due_in c place (map placed_of self.now.flows.items) }
         ensures rest { drop result spots.new ≡ drop result spots.old }
         ensures more { count ≤ result }
         ensures most { result ≤ MAX_SPOTS }
@@ -48,10 +49,10 @@ impl Group {
     // Writes it where the frame is one of theirs, which are numbered alike for all.
     fn put_all(&self, place: u64, spots: &mut [Spot; MAX_SPOTS], count: usize) -> usize
         requires sound { (c : Config) × IsSoundGroup c self.now × (place < c.cycle)
-            × (count + length (spots_in c place (map placed_of self.now.flows.items)) ≤ MAX_SPOTS) }
+            × (count + length (due_in c place (map placed_of self.now.flows.items)) ≤ MAX_SPOTS) }
         requires nominal { place % self.now.interval ≡ self.now.phase }
         ensures spots { (c : Config) → IsSoundGroup c self.now → place < c.cycle → take result
-            spots.new ≡ take count spots.old ++ spots_in c place (map placed_of self.now.flows.items) }
+            spots.new ≡ take count spots.old ++ due_in c place (map placed_of self.now.flows.items) }
         ensures rest { drop result spots.new ≡ drop result spots.old }
         ensures more { count ≤ result }
         ensures most { result ≤ MAX_SPOTS }
@@ -72,7 +73,7 @@ impl Group {
     }
 }
 
-// Writes what the flows of the groups take of frame `k`, and answers how many spots these are.
+// Writes what the flows of the groups are to have of frame `k`, and answers how many spots these are.
 pub(crate) fn fill(
     groups: &[Group],
     config: &Checked,
@@ -80,8 +81,8 @@ pub(crate) fn fill(
     spots: &mut [Spot; MAX_SPOTS],
 ) -> usize
     requires sound { AreSoundGroups config.now groups.now }
-    requires few { length (spots_in config.now k (map placed_of (flows_in groups.now))) ≤ MAX_SPOTS }
-    ensures spots { take result spots.new ≡ spots_in config.now k (map placed_of (flows_in groups.now)) }
+    requires few { length (due_in config.now k (map placed_of (flows_in groups.now))) ≤ MAX_SPOTS }
+    ensures spots { take result spots.new ≡ due_in config.now k (map placed_of (flows_in groups.now)) }
     ensures rest { drop result spots.new ≡ drop result spots.old }
     ensures most { result ≤ MAX_SPOTS }
     ensures lawful { IsLawful config.now }
@@ -170,17 +171,49 @@ fn place_of(groups: &[Group], sid: u16) -> Option<(usize, usize)>
     None
 }
 
-// Takes out the group at this place where it has no flow, so that no frame asks it.
-fn close(groups: &mut Vec<Group>, place: usize)
-    requires { place < length groups.old.items }
-    ensures filled { HaveFlows (remove groups.old.items place) → HaveFlows groups.new.items }
+// The flow with this SID.
+pub(crate) fn flow_of(groups: &[Group], sid: u16) -> Option<&PlacedFlow>
+    ensures among { IfSome result
+        (λ flow. (others : List PlacedFlow) × HasOneMore flow.now others (flows_in groups.now)) }
+    ensures sid { IfSome result (λ flow. flow.now.sid ≡ sid) }
+    ensures flow { IfSome result (λ flow. (c : Config) → AreSoundGroups c groups.now → IsSoundFlow c flow.now) }
+    ensures absent { IfNone result (AllByRecursion (λ f. (f.sid == sid) ≡ false) (flows_in groups.now)) }
+{
+    let (index, place) = place_of(groups, sid)?;
+    Some(&groups[index].flows[place])
+}
+
+// Takes the flow with this SID out of its group, and answers the group's place too: the group has room for the flow, and
+// may be without flows. Room that a group had it still has.
+pub(crate) fn lift_out(groups: &mut Vec<Group>, sid: u16) -> Option<(usize, PlacedFlow)>
+    ensures taken { IfSome result
+        (λ out. HasOneMore out.1 (flows_in groups.new.items) (flows_in groups.old.items)) }
+    ensures sid { IfSome result (λ out. out.1.sid ≡ sid) }
+    ensures flow { IfSome result (λ out. (c : Config) → AreSoundGroups c groups.old.items → IsSoundFlow c out.1) }
+    ensures place { IfSome result (λ out. (c : Config) → AreSoundGroups c groups.old.items
+        → HasRoomAt groups.new.items out.1.interval out.1.phase out.0) }
+    ensures room { (frames frame place : ℕ) → HasRoomAt groups.old.items frames frame place
+        → HasRoomAt groups.new.items frames frame place }
+    ensures filled { IfSome result (λ out. HaveFlows groups.old.items → HaveFlows (remove groups.new.items out.0)) }
+    ensures sound { (c : Config)
+        → AreSoundGroups c groups.old.items → AreSoundGroups c groups.new.items }
+    ensures absent { IfNone result
+        (AllByRecursion (λ f. (f.sid == sid) ≡ false) (flows_in groups.old.items)) }
+    ensures same { IfNone result (groups.new.items ≡ groups.old.items) }
+{
+    let (index, place) = place_of(groups, sid)?;
+    let flow = groups[index].flows.remove(place);
+    Some((index, flow))
+}
+
+// Takes out the groups that have no flow, so that no frame asks them.
+pub(crate) fn close(groups: &mut Vec<Group>)
+    ensures filled { HaveFlows groups.new.items }
     ensures same { flows_in groups.new.items ≡ flows_in groups.old.items }
     ensures sound { (c : Config)
         → AreSoundGroups c groups.old.items → AreSoundGroups c groups.new.items }
 {
-    if groups[place].flows.is_empty() {
-        groups.remove(place);
-    }
+    groups.retain(|group| !group.flows.is_empty());
 }
 
 // Takes the flow with this SID out of its group, and the group with its last flow.
@@ -195,8 +228,7 @@ pub(crate) fn take_out(groups: &mut Vec<Group>, sid: u16) -> Option<PlacedFlow>
     ensures absent { IfNone result
         (AllByRecursion (λ f. (f.sid == sid) ≡ false) (flows_in groups.old.items)) }
 {
-    let (index, place) = place_of(groups, sid)?;
-    let flow = groups[index].flows.remove(place);
-    close(groups, index);
+    let (_, flow) = lift_out(groups, sid)?;
+    close(groups);
     Some(flow)
 }

@@ -251,7 +251,13 @@ fn first_found(
 }
 
 // The first nominal time at or after `next` at this phase and offset.
-fn first_nominal(config: &Checked, interval: u64, next: u64, phase: u64, offset: u64) -> u64
+pub(crate) fn first_nominal(
+    config: &Checked,
+    interval: u64,
+    next: u64,
+    phase: u64,
+    offset: u64,
+) -> u64
     requires phase { phase < interval }
     requires interval { interval < 2 ^ 32 }
     requires offset { offset < config.now.frame }

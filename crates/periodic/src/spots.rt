@@ -1,4 +1,4 @@
-//! What the placed flows take of a frame.
+//! What the placed flows take of a frame, and what they are to have of it.
 
 ghost use Rattle.std.specs.Prelude.{◌≡◌, ℕ, ◌<◌, ◌≤◌, ◌+◌, ◌%◌, ◌++◌, take, drop, length, true, None};
 ghost use Rattle.std.specs.List.Sorted.{IsPermutation, IsNonDecreasingBy};
@@ -7,7 +7,7 @@ ghost use Rattle.minislots.specs.Config.{IsLawful};
 ghost use Rattle.sched_calls.specs.FlowSpec.{is_periodic, size_of, interval_frames, jitter_slots, periodic_slots};
 ghost use Rattle.sched_calls.specs.FlowSpec.{grants_of, first_fault};
 ghost use Rattle.periodic.specs.declared.TheConstants.{MAX_SPOTS};
-ghost use Rattle.periodic.specs.Placement.{starts_in, spot_at, spots_of};
+ghost use Rattle.periodic.specs.Placement.{starts_in, spots_of, due_starts, due_at, due_of};
 ghost use Rattle.periodic.specs.Bits.{bit_for};
 ghost use Rattle.periodic.specs.Rows.{row_at, AreMarked, HaveAtMost, AreBounds};
 ghost use Rattle.periodic.specs.Table.{placed_at};
@@ -34,6 +34,9 @@ pub(crate) struct PlacedFlow {
     // The minislots of one grant or poll, and how many a nominal frame has.
     slots: u16,
     pub(crate) grants: usize,
+    // Whether it rests: it is then polled in the place of its grants, by as many minislots.
+    pub(crate) rests: bool,
+    poll_slots: u16,
 }
 
 // The frames of a periodic flow's interval, which divide the cycle.
@@ -107,7 +110,7 @@ pub(crate) fn grants(config: &Checked, spec: &FlowSpec) -> usize
 }
 
 impl PlacedFlow {
-    // The flow with this placement.
+    // The flow with this placement, which does not rest.
     pub(crate) fn at(config: &Checked, sid: u16, spec: FlowSpec, placement: Placement) -> PlacedFlow
         requires periodic { is_periodic spec ≡ true }
         requires no_fault { first_fault config.now spec ≡ None }
@@ -122,6 +125,8 @@ impl PlacedFlow {
             phase: placement.reference / u64::from(config.frame()) % interval,
             slots: slots(config, &spec) as u16,
             grants: grants(config, &spec),
+            rests: false,
+            poll_slots: config.poll_slots() as u16,
             placement,
         }
     }
@@ -149,11 +154,32 @@ impl PlacedFlow {
         &starts[first..first + self.grants]
     }
 
-    // What the flow takes from this start on.
-    fn spot(&self, start: u16) -> Spot
-        ensures { (c : Config)
-            → KeepsTimes c self.now → result ≡ spot_at c (placed_of self.now) start }
+    // Where the flow is to have something in the frame of this number among those of its phase.
+    fn due_starts(&self, number: u64) -> &[u16]
+        requires sound { (c : Config) × IsSoundFlow c self.now × (own_place self.now number < c.cycle) }
+        ensures { (c : Config) → IsSoundFlow c self.now → own_place self.now number < c.cycle
+            → result.now ≡ due_starts c (placed_of self.now) (own_place self.now number) }
     {
+        let starts = self.own_starts(number);
+        if self.rests && starts.len() > 1 {
+            return &starts[..1];
+        }
+        starts
+    }
+
+    // What the flow is to have from this start on.
+    fn due_at(&self, start: u16) -> Spot
+        ensures { (c : Config)
+            → KeepsTimes c self.now → result ≡ due_at c (placed_of self.now) start }
+    {
+        if self.rests {
+            return Spot {
+                sid: self.sid,
+                size: None,
+                offset: start,
+                slots: self.poll_slots,
+            };
+        }
         Spot {
             sid: self.sid,
             size: size(&self.spec),
@@ -162,21 +188,21 @@ impl PlacedFlow {
         }
     }
 
-    // Writes what the flow takes of the frame of this number among those of its phase behind so many spots, and answers
-    // how many there are then.
+    // Writes what the flow is to have of the frame of this number among those of its phase behind so many spots, and
+    // answers how many there are then.
     pub(crate) fn put(&self, number: u64, spots: &mut [Spot; MAX_SPOTS], count: usize) -> usize
         requires sound { (c : Config) × IsSoundFlow c self.now × (own_place self.now number < c.cycle)
-            × (count + length (spots_of c (own_place self.now number) (placed_of self.now)) ≤ MAX_SPOTS) }
+            × (count + length (due_of c (own_place self.now number) (placed_of self.now)) ≤ MAX_SPOTS) }
         ensures spots { (c : Config) → IsSoundFlow c self.now → own_place self.now number < c.cycle
             → take result spots.new
-            ≡ take count spots.old ++ spots_of c (own_place self.now number) (placed_of self.now) }
+            ≡ take count spots.old ++ due_of c (own_place self.now number) (placed_of self.now) }
         ensures rest { drop result spots.new ≡ drop result spots.old }
         ensures more { count ≤ result }
         ensures most { result ≤ MAX_SPOTS }
     {
         let mut next = count;
-        for start in self.own_starts(number) {
-            spots[next] = self.spot(*start);
+        for start in self.due_starts(number) {
+            spots[next] = self.due_at(*start);
             next += 1;
         }
         next

@@ -1,17 +1,20 @@
 //! The placements of a channel's periodic flows in the cycle of frames.
 
-ghost use Rattle.std.specs.Prelude.{◌≡◌, ℕ, ◌+◌, ◌<◌, ◌==◌, nat_lt, position, ◌≤◌, ◌^◌, ◌%◌, ◌↔◌, []};
+ghost use Rattle.std.specs.Prelude.{◌≡◌, ℕ, ◌+◌, ◌<◌, ◌==◌, ◌≤◌, ◌^◌, ◌%◌, ◌↔◌, []};
 ghost use Rattle.std.specs.Prelude.{length, take, drop, true, false, None, IfOk, OnErr, IsErrOf, IfSome, IfNone};
 ghost use Rattle.std.specs.List.{AllByRecursion};
 ghost use Rattle.std.specs.List.Sorted.{IsPermutation};
 ghost use Rattle.sched_calls.specs.FlowSpec.{is_periodic, grants_of, first_fault};
 ghost use Rattle.periodic.specs.declared.TheConstants.{MAX_SPOTS, MAX_STARTS};
-ghost use Rattle.periodic.specs.Placement.{spots_in, IsPlacement, NoPlacement};
+ghost use Rattle.periodic.specs.Placement.{due_in, IsPlacement, NoPlacement};
 ghost use Rattle.periodic.specs.Choice.{IsChosen};
 ghost use Rattle.periodic.specs.Fields.{placement_at};
 ghost use Rattle.periodic.specs.Search.{chosen_placement};
 ghost use Rattle.periodic.specs.Table.{placed_grants, IsPlaced, IsNotPlaced, HasPlacement, placed_at, with_placed};
 ghost use Rattle.periodic.specs.Table.{without, AreSound, IsWithinFrame, FollowInTurn};
+
+mod moving;
+mod standing;
 
 use crate::MAX_SPOTS;
 use crate::adopt::is_lawful;
@@ -204,11 +207,12 @@ impl Table {
         self.len -= 1;
     }
 
-    /// Writes what the placed flows take of frame `k`, in the order of their offsets, and answers how
-    /// many spots these are. The rest of the array stays.
+    /// Writes what the placed flows are to have of frame `k`, in the order of their offsets, and answers how
+    /// many spots these are: what each takes, but of a flow that rests one poll at the first of its starts there. The
+    /// rest of the array stays.
     pub fn in_frame(&self, k: u64, spots: &mut [Spot; MAX_SPOTS]) -> usize
         // Exactly the spots of the frame are written.
-        ensures spots { IsPermutation (spots_in self.now.config k self.now.placed)
+        ensures spots { IsPermutation (due_in self.now.config k self.now.placed)
             (take result spots.new) }
         ensures rest { drop result spots.new ≡ drop result spots.old }
         ensures most { result ≤ MAX_SPOTS }

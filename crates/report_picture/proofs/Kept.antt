@@ -34,6 +34,7 @@ pub no_map : (reply : Reply) → ((m : FrameMap) → reply ≡ replies.Built m �
 no_map (replies.Built m) unbuilt = absurd (unbuilt m refl)
 no_map (replies.Skipped n) unbuilt = refl
 no_map (replies.Admitted placement) unbuilt = refl
+no_map (replies.Changed placement) unbuilt = refl
 no_map replies.Removed unbuilt = refl
 no_map replies.Taken unbuilt = refl
 no_map replies.Noted unbuilt = refl

@@ -1,5 +1,5 @@
 -- The delays of requests by rank.
-use Rattle.std.specs.Prelude.{ℕ, ◌+◌, ◌*◌, ◌/◌, ◌==◌, nat_le, if◌then◌else◌, max, List, [], ◌∷◌, ◌++◌, codes}
+use Rattle.std.specs.Prelude.{ℕ, ◌+◌, ◌*◌, ◌/◌, ◌==◌, nat_le, Bool, if◌then◌else◌, max, List, [], ◌∷◌, ◌++◌, codes}
 use Rattle.std.specs.Prelude.{flat_map, length, slice_index_or, Option, None, Some}
 use Rattle.std.specs.List.{range_with_len}
 use Rattle.sched_report.specs.declared.life.TheConstants.{POLLED}
@@ -80,24 +80,33 @@ spread_text s (Some d) = marks_text s d ++ numbers_text s d
 abbrev pub rank_at : List RankTold → ℕ → RankTold
 rank_at ranks i = slice_index_or ranks i NO_RANK
 
--- how many requests of a rank were served, and how many wait or were dropped
-unfoldable pub counts_text : RankSums → List ℕ
-counts_text sums =
-    filled (codes "<text class='end' x='724' y='20'>@</text>") (sums.served ∷ [])
-    ++ filled (codes "<text class='end' x='1194' y='20'>@</text><text class='end' x='1284' y='20'>@</text>\n")
+-- how many requests of a rank wait, were dropped and, where that is told, were replaced
+unfoldable pub unserved_text : Bool → RankSums → List ℕ
+unserved_text replaced sums =
+    if replaced
+    then filled (codes "<text class='end' x='1164' y='20'>@</text><text class='end' x='1224' y='20'>@</text>")
+    (sums.waiting ∷ sums.dropped ∷ [])
+    ++ filled (codes "<text class='end' x='1284' y='20'>@</text>\n") (sums.replaced ∷ [])
+    else filled (codes "<text class='end' x='1194' y='20'>@</text><text class='end' x='1284' y='20'>@</text>\n")
     (sums.waiting ∷ sums.dropped ∷ [])
 
--- the row of a rank: its name, how many of its requests were served, wait and were dropped, and their delays
-unfoldable pub row_text : Scale → List RankTold → ℕ → List ℕ
-row_text s ranks i =
+-- how many were served, and the others
+unfoldable pub counts_text : Bool → RankSums → List ℕ
+counts_text replaced sums =
+    filled (codes "<text class='end' x='724' y='20'>@</text>") (sums.served ∷ []) ++ unserved_text replaced sums
+
+-- the row of a rank: its name, how many of its requests were served, wait, were dropped and were replaced, and their
+-- delays
+unfoldable pub row_text : Scale → Bool → List RankTold → ℕ → List ℕ
+row_text s replaced ranks i =
     filled (codes "<g transform='translate(0 @)'>") ((32 * i) ∷ [])
     ++ (rank_text (rank_at ranks i).rank
-    ++ (counts_text (rank_at ranks i).numbers.sums
+    ++ (counts_text replaced (rank_at ranks i).numbers.sums
     ++ (spread_text s (spread_of (rank_at ranks i)) ++ codes "</g>\n")))
 
 -- the rows of ranks, one below the other
-abbrev pub rows_text : Scale → List RankTold → List ℕ
-rows_text s ranks = flat_map (row_text s ranks) (range_with_len 0 (length ranks))
+abbrev pub rows_text : Scale → Bool → List RankTold → List ℕ
+rows_text s replaced ranks = flat_map (row_text s replaced ranks) (range_with_len 0 (length ranks))
 
 -- what the delays are
 unfoldable pub delays_title : List ℕ
@@ -118,14 +127,21 @@ marks_legend =
 unfoldable pub delays_legend : List ℕ
 delays_legend = delays_title ++ marks_legend
 
+-- the names of the columns behind those of delays
+unfoldable pub last_columns : Bool → List ℕ
+last_columns replaced =
+    if replaced
+    then codes "<text class='end' x='1164' y='-10'>waiting</text><text class='end' x='1224' y='-10'>dropped</text>"
+    ++ codes "<text class='end' x='1284' y='-10'>replaced</text>\n"
+    else codes "<text class='end' x='1194' y='-10'>waiting</text><text class='end' x='1284' y='-10'>dropped</text>\n"
+
 -- the names of the columns of numbers
-unfoldable pub columns_text : List ℕ
-columns_text =
+unfoldable pub columns_text : Bool → List ℕ
+columns_text replaced =
     codes "<g transform='translate(96 560)'>\n<text class='end' x='-24' y='-10'>ms</text>"
     ++ (codes "<text class='end' x='724' y='-10'>served</text><text class='end' x='824' y='-10'>least</text>"
     ++ (codes "<text class='end' x='914' y='-10'>middle</text><text class='end' x='1014' y='-10'>99 in 100</text>"
-    ++ (codes "<text class='end' x='1104' y='-10'>greatest</text>"
-    ++ codes "<text class='end' x='1194' y='-10'>waiting</text><text class='end' x='1284' y='-10'>dropped</text>\n")))
+    ++ (codes "<text class='end' x='1104' y='-10'>greatest</text>" ++ last_columns replaced)))
 
 -- what stands in the place of rows where no rank has any
 unfoldable pub no_rows_text : ℕ → List ℕ
@@ -134,7 +150,7 @@ no_rows_text rows =
     else []
 
 -- the delays of ranks, on channels whose minislots have so many ticks
-unfoldable pub delays_text : ℕ → List RankTold → List ℕ
-delays_text ticks ranks =
-    delays_legend ++ (columns_text ++ (delay_ticks (scale_to ticks (most_of ranks)) (length ranks)
-    ++ (rows_text (scale_to ticks (most_of ranks)) ranks ++ (no_rows_text (length ranks) ++ codes "</g>\n"))))
+unfoldable pub delays_text : ℕ → Bool → List RankTold → List ℕ
+delays_text ticks replaced ranks =
+    delays_legend ++ (columns_text replaced ++ (delay_ticks (scale_to ticks (most_of ranks)) (length ranks)
+    ++ (rows_text (scale_to ticks (most_of ranks)) replaced ranks ++ (no_rows_text (length ranks) ++ codes "</g>\n"))))

@@ -1,5 +1,5 @@
 -- The picture of a report.
-use Rattle.std.specs.Prelude.{◌≡◌, ℕ, ◌-◌, ◌==◌, if◌then◌else◌, List, [], ◌++◌, length, codes}
+use Rattle.std.specs.Prelude.{◌≡◌, ℕ, ◌-◌, ◌==◌, nat_lt, Bool, if◌then◌else◌, List, [], ◌++◌, length, codes}
 use Rattle.minislots.specs.declared.config.Config.{Config}
 use Rattle.sched_calls.specs.declared.reply.Entry.{Entry}
 use Rattle.frame_picture.specs.Frames.{frames_of}
@@ -29,10 +29,15 @@ use_text c steps =
     ++ (areas_text c steps
     ++ (axes_text c ++ (steps_text c steps ++ (no_frames_text (length steps) ++ codes "</g>\n"))))
 
+-- whether a picture tells how many requests were replaced: where one was accepted that supersedes those before
+abbrev pub tells_replaced : Totals → Bool
+tells_replaced t = nat_lt 0 t.replaces
+
 -- the picture of these numbers
 unfoldable pub report_text : Course → Totals → List Step → List RankTold → List ℕ
 report_text c t steps ranks =
-    head_text c t (length ranks) ++ (use_text c steps ++ (delays_text c.ticks ranks ++ codes "</svg>\n"))
+    head_text c t (length ranks) ++ (use_text c steps
+    ++ (delays_text c.ticks (tells_replaced t) ranks ++ codes "</svg>\n"))
 
 -- so many frames, on this channel, in steps of so many each, from where the first one starts to where the last one ends
 abbrev pub course_of : Config → Totals → ℕ → ℕ → Course

@@ -2,7 +2,7 @@
 
 ghost use Rattle.std.specs.Prelude.{◌≡◌, ◌<◌, ◌≤◌, ◌^◌, length};
 ghost use Rattle.report_picture.specs.Delays.{most_of, delay_tick, delay_ticks, delays_title, marks_legend};
-ghost use Rattle.report_picture.specs.Delays.{delays_legend, columns_text, delays_text};
+ghost use Rattle.report_picture.specs.Delays.{delays_legend, last_columns, columns_text, delays_text};
 ghost use Rattle.text_stream.specs.Writing.{Puts};
 
 use crate::axis::{place, round_step};
@@ -119,11 +119,41 @@ fn put_delays_legend<W: Sink>(lines: &mut TextBuffer, writer: &mut W) -> Result<
     put_marks_legend(lines, writer)
 }
 
+// The names of the columns behind those of delays.
+#[tactic(auto, unfolding(crate::specs::Delays::last_columns))]
+fn put_last_columns<W: Sink>(
+    lines: &mut TextBuffer,
+    writer: &mut W,
+    replaced: bool,
+) -> Result<(), TextFault>
+    ensures { Puts W.contents W.has_failed writer.old writer.new lines.old lines.new
+        (last_columns replaced) result }
+{
+    if !replaced {
+        return lines.put(
+            writer,
+            b"<text class='end' x='1194' y='-10'>waiting</text><text class='end' x='1284' y='-10'>dropped</text>\n",
+        );
+    }
+    lines.put(
+        writer,
+        b"<text class='end' x='1164' y='-10'>waiting</text><text class='end' x='1224' y='-10'>dropped</text>",
+    )?;
+    lines.put(
+        writer,
+        b"<text class='end' x='1284' y='-10'>replaced</text>\n",
+    )
+}
+
 // The names of the columns of numbers.
 #[tactic(auto, unfolding(crate::specs::Delays::columns_text))]
-fn put_columns<W: Sink>(lines: &mut TextBuffer, writer: &mut W) -> Result<(), TextFault>
+fn put_columns<W: Sink>(
+    lines: &mut TextBuffer,
+    writer: &mut W,
+    replaced: bool,
+) -> Result<(), TextFault>
     ensures { Puts W.contents W.has_failed writer.old writer.new lines.old lines.new
-        (columns_text) result }
+        (columns_text replaced) result }
 {
     lines.put(
         writer,
@@ -141,10 +171,7 @@ fn put_columns<W: Sink>(lines: &mut TextBuffer, writer: &mut W) -> Result<(), Te
         writer,
         b"<text class='end' x='1104' y='-10'>greatest</text>",
     )?;
-    lines.put(
-        writer,
-        b"<text class='end' x='1194' y='-10'>waiting</text><text class='end' x='1284' y='-10'>dropped</text>\n",
-    )
+    put_last_columns(lines, writer, replaced)
 }
 
 // The delays of ranks, on a channel whose minislots have so many ticks.
@@ -153,17 +180,18 @@ pub(crate) fn put_delays<W: Sink>(
     lines: &mut TextBuffer,
     writer: &mut W,
     ticks: u32,
+    replaced: bool,
     ranks: &[RankTold],
 ) -> Result<(), TextFault>
     requires { length ranks.now ≤ 9 }
     ensures { Puts W.contents W.has_failed writer.old writer.new lines.old lines.new
-        (delays_text ticks ranks.now) result }
+        (delays_text ticks replaced ranks.now) result }
 {
     let scale = scale_to(ticks, most_of(ranks));
     put_delays_legend(lines, writer)?;
-    put_columns(lines, writer)?;
+    put_columns(lines, writer, replaced)?;
     put_delay_ticks(lines, writer, scale, ranks.len())?;
-    put_rows(lines, writer, scale, ranks)?;
+    put_rows(lines, writer, scale, replaced, ranks)?;
     put_no_rows(lines, writer, ranks.len())?;
     lines.put(writer, b"</g>\n")
 }

@@ -76,7 +76,7 @@ fn put_report<W: Sink>(
 {
     put_head(lines, writer, course, totals, ranks.len())?;
     put_use(lines, writer, course, steps)?;
-    put_delays(lines, writer, course.ticks, ranks)?;
+    put_delays(lines, writer, course.ticks, totals.replaces > 0, ranks)?;
     lines.put(writer, b"</svg>\n")
 }
 

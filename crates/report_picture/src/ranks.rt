@@ -15,6 +15,7 @@ pub(crate) const NO_RANK: RankTold = RankTold {
             granted: 0,
             waiting: 0,
             dropped: 0,
+            replaced: 0,
             served: 0,
             least: None,
             greatest: None,

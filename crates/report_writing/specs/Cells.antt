@@ -7,7 +7,7 @@ use Rattle.serde_json.specs.Data.{Data, Members, null, string, object, no_member
 use Rattle.serde_json.specs.Written.{members_outline}
 use Rattle.history_writing.specs.Json.{count}
 use Rattle.report_writing.specs.declared.cell.Cell.{Cell}
-use Rattle.report_writing.specs.declared.cell.Cell.TheVariants.{Count, Maybe, Name, Delay}
+use Rattle.report_writing.specs.declared.cell.Cell.TheVariants.{Count, Maybe, Given, Name, Delay}
 
 -- how delays are spread
 abbrev pub spread_data : ℕ → ℕ → ℕ → ℕ → Data
@@ -29,14 +29,25 @@ maybe_data (Some n) = count n
 abbrev pub cell_data : Cell → Data
 cell_data (Count n) = count n
 cell_data (Maybe n) = maybe_data n
+cell_data (Given n) = maybe_data n
 cell_data (Name name) = string name.now
 cell_data (Delay s) = delay_data s.greatest s.least s.middle s.p99
+
+-- a member for a whole number, where there is one, before others
+abbrev pub with_given : List ℕ → Option ℕ → Members → Members
+with_given key None others = others
+with_given key (Some n) others = member key (count n) others
+
+-- a member for one of these, before others
+abbrev pub with_cell : List ℕ → Cell → Members → Members
+with_cell key (Given n) others = with_given key n others
+with_cell key cell others = member key (cell_data cell) others
 
 -- a member for each of these, under the key at its place
 abbrev pub members_with : List (Bor (List ℕ)) → List Cell → Members
 members_with [] cells = no_members
 members_with (k ∷ ks) [] = no_members
-members_with (k ∷ ks) (cell ∷ cells) = member k.now (cell_data cell) (members_with ks cells)
+members_with (k ∷ ks) (cell ∷ cells) = with_cell k.now cell (members_with ks cells)
 
 -- the object of these members
 abbrev pub object_of : List (Bor (List ℕ)) → List Cell → Data

@@ -15,6 +15,10 @@ left places text = text ++ spaces (places - length text)
 unfoldable pub right : ℕ → List ℕ → List ℕ
 right places text = spaces (places + 1 - length text) ++ text
 
+-- so many places of a column, or one fewer where its table has a column more
+abbrev pub narrower : Bool → ℕ → ℕ
+narrower more places = if more then places - 1 else places
+
 -- what stands behind a number that is told in so many times a thousand
 unfoldable pub unit_name : ℕ → List ℕ
 unit_name power =

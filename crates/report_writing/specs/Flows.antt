@@ -6,7 +6,8 @@ use Rattle.std.specs.Ordering.{is_lt, nat_cmp, bool_cmp, ordering_then}
 use Rattle.sched_calls.specs.declared.spec.FlowSpec.{FlowSpec}
 use Rattle.sched_calls.specs.declared.spec.FlowSpec.TheVariants.{Unsolicited, Polled, BestEffort}
 use Rattle.sched_report.specs.declared.life.LifeNumbers.{LifeNumbers}
-use Rattle.report_writing.specs.Columns.{right, number_column, number_or_none, ms_or_none, bits_a_second}
+use Rattle.report_writing.specs.Columns.{right, narrower, number_column, number_or_none, ms_or_none, bits_a_second}
+use Rattle.report_writing.specs.Tables.{replaced_column}
 
 -- a kind of flow, and the priority of a best effort one
 unfoldable pub kind_title : FlowSpec → List ℕ
@@ -21,14 +22,17 @@ ceiling_of (Polled interval jitter rate burst) = if rate == 0 then None else Som
 ceiling_of (BestEffort priority rate burst) = if rate == 0 then None else Some rate
 
 -- the bits a second that a life asked, was granted, and may be granted at most
-unfoldable pub life_rates : ℕ → LifeNumbers → List ℕ
-life_rates ticks n =
-    number_or_none 8 (bits_a_second n.sums.asked (n.to - n.from) ticks)
-    ++ (number_or_none 8 (bits_a_second n.granted (n.to - n.from) ticks) ++ number_or_none 8 (ceiling_of n.spec))
+unfoldable pub life_rates : ℕ → Bool → LifeNumbers → List ℕ
+life_rates ticks replaced n =
+    number_or_none (narrower replaced 8) (bits_a_second n.sums.asked (n.to - n.from) ticks)
+    ++ (number_or_none (narrower replaced 8) (bits_a_second n.granted (n.to - n.from) ticks)
+    ++ number_or_none (narrower replaced 8) (ceiling_of n.spec))
 
--- its requests: how many there are, and how many wait and were dropped
-unfoldable pub life_counts : LifeNumbers → List ℕ
-life_counts n = number_column 6 n.sums.asks ++ (number_column 4 n.waiting ++ number_column 4 n.dropped)
+-- its requests: how many there are, and how many wait, were dropped and, where that is told, were replaced
+unfoldable pub life_counts : Bool → LifeNumbers → List ℕ
+life_counts replaced n =
+    number_column (narrower replaced 6) n.sums.asks ++ (number_column 4 n.waiting
+    ++ (number_column 4 n.dropped ++ replaced_column replaced n.sums.replaced))
 
 -- the delays of those that were served
 unfoldable pub life_delays : ℕ → LifeNumbers → List ℕ
@@ -36,10 +40,10 @@ life_delays ticks n =
     ms_or_none 7 ticks n.middle ++ (ms_or_none 7 ticks n.p99 ++ ms_or_none 7 ticks n.sums.delays.greatest)
 
 -- the line of a life
-unfoldable pub life_line : ℕ → LifeNumbers → List ℕ
-life_line ticks n =
-    right 3 (decimal n.sid) ++ (kind_title n.spec ++ (life_rates ticks n
-    ++ (life_counts n ++ (life_delays ticks n ++ codes "\n"))))
+unfoldable pub life_line : ℕ → Bool → LifeNumbers → List ℕ
+life_line ticks replaced n =
+    right 3 (decimal n.sid) ++ (kind_title n.spec ++ (life_rates ticks replaced n
+    ++ (life_counts replaced n ++ (life_delays ticks n ++ codes "\n"))))
 
 -- a life stands before another where it asked for more bytes, or for as many and lives while the other has ended
 abbrev pub stands_before : LifeNumbers → LifeNumbers → Bool
@@ -68,11 +72,17 @@ order_text all =
     if all then codes "\nflows, in the order of their admissions:\n"
     else codes "\nflows, those first that asked for the most bytes:\n"
 
+-- the names of the columns
+unfoldable pub flows_heading : Bool → List ℕ
+flows_heading replaced =
+    if replaced
+    then codes " SID kind   asked/s granted ceiling  asks wait drop repl  middle     p99    most\n"
+    else codes " SID kind   asked/s  granted  ceiling   asks wait drop  middle     p99    most\n"
+
 -- what the columns are
-unfoldable pub columns_text : List ℕ
-columns_text =
-    codes "bits per second asked, granted and at most; delays in milliseconds\n"
-    ++ codes " SID kind   asked/s  granted  ceiling   asks wait drop  middle     p99    most\n"
+unfoldable pub columns_text : Bool → List ℕ
+columns_text replaced =
+    codes "bits per second asked, granted and at most; delays in milliseconds\n" ++ flows_heading replaced
 
 -- how many lives there are, where some are left out
 unfoldable pub left_out_text : Bool → ℕ → List ℕ
@@ -83,9 +93,9 @@ left_out_text all lives =
     else []
 
 -- the table of these lives, where there are any
-unfoldable pub flows_text : ℕ → Bool → List LifeNumbers → List ℕ
-flows_text ticks all ordered =
+unfoldable pub flows_text : ℕ → Bool → Bool → List LifeNumbers → List ℕ
+flows_text ticks replaced all ordered =
     if nat_lt 0 (length ordered) then
-    order_text all ++ (columns_text
-    ++ (flat_map (life_line ticks) (told_of all ordered) ++ left_out_text all (length ordered)))
+    order_text all ++ (columns_text replaced
+    ++ (flat_map (life_line ticks replaced) (told_of all ordered) ++ left_out_text all (length ordered)))
     else []

@@ -1,6 +1,6 @@
 -- The tables of a report: its frames, the use of minislots, the calls, the refusals and the ranks.
-use Rattle.std.specs.Prelude.{ℕ, ◌+◌, ◌-◌, ◌%◌, ◌==◌, nat_lt, if◌then◌else◌, List, [], ◌++◌, length, take, flat_map}
-use Rattle.std.specs.Prelude.{codes, decimal, count_by, slice_index, Option, None, Some}
+use Rattle.std.specs.Prelude.{ℕ, ◌+◌, ◌-◌, ◌%◌, ◌==◌, nat_lt, Bool, if◌then◌else◌, List, [], ◌++◌, length, take}
+use Rattle.std.specs.Prelude.{flat_map, codes, decimal, count_by, slice_index, Option, None, Some}
 use Rattle.std.specs.List.{range_with_len}
 use Rattle.sched_report.specs.declared.calls.Calls.{Calls}
 use Rattle.sched_report.specs.declared.slots.Slots.{Slots}
@@ -8,7 +8,7 @@ use Rattle.sched_report.specs.declared.totals.Totals.{Totals}
 use Rattle.sched_report.specs.declared.life.TheConstants.{POLLED}
 use Rattle.sched_report.specs.declared.ranks_told.RankTold.{RankTold}
 use Rattle.sched_report.specs.Uses.{all_slots}
-use Rattle.report_writing.specs.Columns.{spaces, left, right, number_column, percent_column}
+use Rattle.report_writing.specs.Columns.{spaces, left, right, narrower, number_column, percent_column}
 use Rattle.report_writing.specs.Columns.{microseconds, ms_text, ms_or_none}
 
 -- how many frames there are, and from which minislot to which they reach
@@ -72,11 +72,21 @@ last_calls c =
     call_line (codes "reserve") c.reserve ++ (call_line (codes "header") c.header
     ++ call_line (codes "status") c.status)
 
+-- how many calls of a kind there were, where there were any
+abbrev pub call_line_above_0 : List ℕ → ℕ → List ℕ
+call_line_above_0 name count = if nat_lt 0 count then call_line name count else []
+
+-- the calls that change what flows have or wait for
+unfoldable pub flow_calls : Calls → List ℕ
+flow_calls c =
+    call_line_above_0 (codes "replace") c.replace ++ (call_line_above_0 (codes "change") c.change
+    ++ (call_line_above_0 (codes "rest") c.rest ++ call_line_above_0 (codes "wake") c.wake))
+
 -- the use of minislots, and beside it the calls
 unfoldable pub uses_text : Slots → Calls → List ℕ
 uses_text s c =
     codes "\nuse              minislots       %        calls\n"
-    ++ (first_uses s (all_slots s) c ++ (last_uses s (all_slots s) c ++ last_calls c))
+    ++ (first_uses s (all_slots s) c ++ (last_uses s (all_slots s) c ++ (last_calls c ++ flow_calls c)))
 
 -- how many of the first numbers there were refusals with, so many of them
 abbrev pub told_before : List ℕ → ℕ → ℕ
@@ -110,13 +120,19 @@ refused_text counts =
 unfoldable pub rank_title : ℕ → List ℕ
 rank_title rank = if rank == POLLED then codes "polled" else codes "best " ++ decimal rank
 
--- the bytes that a rank was granted, and its requests: how many there are, and how many were served, wait and were
--- dropped
-unfoldable pub rank_counts : RankTold → List ℕ
-rank_counts t =
-    number_column 9 t.numbers.sums.granted ++ (number_column 7 t.numbers.sums.asks
-    ++ (number_column 7 t.numbers.sums.served ++ (number_column 5 t.numbers.sums.waiting
-    ++ number_column 5 t.numbers.sums.dropped)))
+-- how many requests were replaced, in a report that tells it
+abbrev pub replaced_column : Bool → ℕ → List ℕ
+replaced_column replaced n = if replaced then number_column 4 n else []
+
+-- the bytes that a rank was granted, and its requests: how many there are, and how many were served, wait, were dropped
+-- and, where that is told, were replaced
+unfoldable pub rank_counts : Bool → RankTold → List ℕ
+rank_counts replaced t =
+    number_column 9 t.numbers.sums.granted ++ (number_column (narrower replaced 7) t.numbers.sums.asks
+    ++ (number_column (narrower replaced 7) t.numbers.sums.served
+    ++ (number_column (narrower replaced 5) t.numbers.sums.waiting
+    ++ (number_column (narrower replaced 5) t.numbers.sums.dropped
+    ++ replaced_column replaced t.numbers.sums.replaced))))
 
 -- the delays of those that were served
 unfoldable pub rank_delays : ℕ → RankTold → List ℕ
@@ -125,15 +141,20 @@ rank_delays ticks t =
     ++ (ms_or_none 7 ticks t.numbers.p99 ++ ms_or_none 7 ticks t.numbers.sums.greatest))
 
 -- the line of a rank
-unfoldable pub rank_line : ℕ → RankTold → List ℕ
-rank_line ticks t = rank_title t.rank ++ (rank_counts t ++ (rank_delays ticks t ++ codes "\n"))
+unfoldable pub rank_line : ℕ → Bool → RankTold → List ℕ
+rank_line ticks replaced t = rank_title t.rank ++ (rank_counts replaced t ++ (rank_delays ticks t ++ codes "\n"))
+
+-- what the columns are
+unfoldable pub ranks_heading : Bool → List ℕ
+ranks_heading replaced =
+    if replaced
+    then codes "\nrank       bytes   asks served wait drop repl   least  middle     p99    most ms\n"
+    else codes "\nrank       bytes    asks  served  wait  drop   least  middle     p99    most ms\n"
 
 -- the table of these ranks
-unfoldable pub ranks_table : ℕ → List RankTold → List ℕ
-ranks_table ticks ranks =
-    codes "\nrank       bytes    asks  served  wait  drop   least  middle     p99    most ms\n"
-    ++ flat_map (rank_line ticks) ranks
+unfoldable pub ranks_table : ℕ → Bool → List RankTold → List ℕ
+ranks_table ticks replaced ranks = ranks_heading replaced ++ flat_map (rank_line ticks replaced) ranks
 
 -- the ranks that asked, where there are any
-unfoldable pub ranks_text : ℕ → List RankTold → List ℕ
-ranks_text ticks ranks = if nat_lt 0 (length ranks) then ranks_table ticks ranks else []
+unfoldable pub ranks_text : ℕ → Bool → List RankTold → List ℕ
+ranks_text ticks replaced ranks = if nat_lt 0 (length ranks) then ranks_table ticks replaced ranks else []

@@ -9,6 +9,7 @@ use Rattle.sched_report.specs.Counts.{CountsRefusals}
 use Rattle.sched_report.specs.RanksTold.{AreRanksTold}
 use Rattle.sched_report.specs.Totals.{totals_of}
 use Rattle.report_writing.specs.Gathered.{AreLivesTold}
+use Rattle.report_writing.specs.Report.{tells_replaced}
 use Rattle.report_writing.specs.Tables.{head_text, uses_text, refused_text, ranks_text}
 use Rattle.report_writing.specs.Flows.{AreOrdered, flows_text}
 
@@ -16,7 +17,7 @@ use Rattle.report_writing.specs.Flows.{AreOrdered, flows_text}
 unfoldable pub tables_text : ℕ → Bool → Totals → List ℕ → List RankTold → List LifeNumbers → List ℕ
 tables_text ticks all t refused ranks ordered =
     head_text ticks t ++ (uses_text t.slots t.calls ++ (refused_text refused
-    ++ (ranks_text ticks ranks ++ flows_text ticks all ordered)))
+    ++ (ranks_text ticks (tells_replaced t) ranks ++ flows_text ticks (tells_replaced t) all ordered)))
 
 -- The text is the tables of the report on a history, with all lives of flows or with those that asked most
 pub record IsReportTables (all : Bool) (c : Config) (h : List Entry) (text : List ℕ) : Type 0 where

@@ -2,9 +2,10 @@
 
 ghost use Rattle.std.specs.Prelude.{◌≡◌, ◌++◌, ◌∷◌, length, OnOk};
 ghost use Rattle.json.specs.Token.{key};
+ghost use Rattle.serde_json.specs.Data.{Members};
 ghost use Rattle.history_writing.specs.Json.{count};
 ghost use Rattle.history_writing.specs.Tokens.{tokens_of};
-ghost use Rattle.report_writing.specs.Cells.{cell_data, delay_data, spread_data, object_of};
+ghost use Rattle.report_writing.specs.Cells.{cell_data, delay_data, spread_data, with_cell, object_of, tokens_to_end};
 
 use itoa::Buffer;
 use json::Writer;
@@ -24,8 +25,10 @@ pub(crate) struct Spread {
 pub(crate) enum Cell {
     // A whole number.
     Count(u128),
-    // A whole number, where there is one.
+    // A whole number, or null where there is none.
     Maybe(Option<u64>),
+    // A whole number, where there is none not even its key.
+    Given(Option<u128>),
     // A name.
     Name(&'static str),
     // How delays are spread.
@@ -93,9 +96,25 @@ pub(crate) fn put_cell(out: &mut Writer, cell: Cell) -> Result<(), AllocError>
     match cell {
         Cell::Count(number) => put_count(out, number),
         Cell::Maybe(Some(number)) => out.u64(number),
-        Cell::Maybe(None) => out.null(),
+        Cell::Given(Some(number)) => put_count(out, number),
+        Cell::Maybe(None) | Cell::Given(None) => out.null(),
         Cell::Name(name) => out.string(name),
         Cell::Delay(spread) => put_delay(out, spread),
+    }
+}
+
+// Writes a member, where it is not left out. Other members may follow.
+fn put_member(out: &mut Writer, key: &str, cell: Cell) -> Result<(), AllocError>
+    ensures ok { OnOk result ((others : Members) → out.new.tokens ++ tokens_to_end others
+        ≡ out.old.tokens ++ tokens_to_end (with_cell key.now cell others)) }
+    ensures before { out.new.before ≡ out.old.before }
+{
+    match cell {
+        Cell::Given(None) => Ok(()),
+        _ => {
+            out.key(key)?;
+            put_cell(out, cell)
+        }
     }
 }
 
@@ -108,8 +127,7 @@ pub(crate) fn put_object(out: &mut Writer, keys: &[&str], cells: &[Cell]) -> Res
 {
     out.begin_object()?;
     for index in 0..cells.len() {
-        out.key(keys[index])?;
-        put_cell(out, cells[index])?;
+        put_member(out, keys[index], cells[index])?;
     }
     out.end_object()
 }

@@ -1,33 +1,19 @@
 //! The object of a life of a flow in a report's JSON.
 
-ghost use Rattle.std.specs.Prelude.{◌≡◌, ◌++◌, None, Some, OnOk};
+ghost use Rattle.std.specs.Prelude.{◌≡◌, ◌++◌, OnOk};
 ghost use Rattle.history_writing.specs.Tokens.{tokens_of};
 ghost use Rattle.report_writing.specs.declared.cell.Cell.TheVariants.{Delay};
 ghost use Rattle.report_writing.specs.Report.{kind_name, life_data};
 
 use crate::cell::{Cell, Spread, put_object};
+use crate::members::told_if;
 use flow_book::FlowSpec;
 use json::Writer;
 use sched_report::LifeNumbers;
 use std::alloc::AllocError;
 
-// The keys of a life, in ascending order, and those of one of a best effort flow.
-static LIFE: [&str; 12] = [
-    "asked",
-    "asks",
-    "delay",
-    "dropped",
-    "from",
-    "granted",
-    "kind",
-    "outstanding",
-    "served",
-    "sid",
-    "to",
-    "waiting",
-];
-
-static BEST_EFFORT: [&str; 13] = [
+// The keys of a life, in ascending order.
+static LIFE: [&str; 14] = [
     "asked",
     "asks",
     "delay",
@@ -37,6 +23,7 @@ static BEST_EFFORT: [&str; 13] = [
     "kind",
     "outstanding",
     "priority",
+    "replaced",
     "served",
     "sid",
     "to",
@@ -71,68 +58,42 @@ fn delay_of(life: &LifeNumbers) -> Cell
     })
 }
 
-// Writes the numbers of a life of a flow that has no priority.
-#[tactic(auto, unfolding(crate::specs::Report::life_data))]
-fn put_periodic(out: &mut Writer, life: &LifeNumbers) -> Result<(), AllocError>
-    requires { life.now.priority ≡ None }
-    ensures ok { OnOk result (out.new.tokens ≡ out.old.tokens ++ tokens_of (life_data life.now)) }
-    ensures before { out.new.before ≡ out.old.before }
-{
-    put_object(
-        out,
-        &LIFE,
-        &[
-            Cell::Count(life.sums.asked as u128),
-            Cell::Count(life.sums.asks as u128),
-            delay_of(life),
-            Cell::Count(life.dropped as u128),
-            Cell::Count(life.from as u128),
-            Cell::Count(life.granted),
-            Cell::Name(kind_name(life.spec)),
-            Cell::Count(life.outstanding as u128),
-            Cell::Count(life.sums.delays.served as u128),
-            Cell::Count(life.sid as u128),
-            Cell::Count(life.to as u128),
-            Cell::Count(life.waiting as u128),
-        ],
-    )
-}
-
-// Writes the numbers of a life of a best effort flow, with its priority.
-#[tactic(auto, unfolding(crate::specs::Report::life_data))]
-fn put_best_effort(out: &mut Writer, life: &LifeNumbers, priority: u8) -> Result<(), AllocError>
-    requires { life.now.priority ≡ Some priority }
-    ensures ok { OnOk result (out.new.tokens ≡ out.old.tokens ++ tokens_of (life_data life.now)) }
-    ensures before { out.new.before ≡ out.old.before }
-{
-    put_object(
-        out,
-        &BEST_EFFORT,
-        &[
-            Cell::Count(life.sums.asked as u128),
-            Cell::Count(life.sums.asks as u128),
-            delay_of(life),
-            Cell::Count(life.dropped as u128),
-            Cell::Count(life.from as u128),
-            Cell::Count(life.granted),
-            Cell::Name(kind_name(life.spec)),
-            Cell::Count(life.outstanding as u128),
-            Cell::Count(priority as u128),
-            Cell::Count(life.sums.delays.served as u128),
-            Cell::Count(life.sid as u128),
-            Cell::Count(life.to as u128),
-            Cell::Count(life.waiting as u128),
-        ],
-    )
-}
-
-// Writes the numbers of a life.
-pub(crate) fn put_life(out: &mut Writer, life: &LifeNumbers) -> Result<(), AllocError>
-    ensures ok { OnOk result (out.new.tokens ≡ out.old.tokens ++ tokens_of (life_data life.now)) }
-    ensures before { out.new.before ≡ out.old.before }
+// The priority of a life, where it has one.
+fn priority_of(life: &LifeNumbers) -> Option<u128>
+    ensures { result ≡ life.now.priority }
 {
     match life.priority {
-        None => put_periodic(out, life),
-        Some(priority) => put_best_effort(out, life, priority),
+        Some(priority) => Some(priority as u128),
+        None => None,
     }
+}
+
+// Writes the numbers of a life, with its replaced requests or without.
+#[tactic(auto, unfolding(crate::specs::Report::life_data))]
+pub(crate) fn put_life(
+    out: &mut Writer,
+    life: &LifeNumbers,
+    replaced: bool,
+) -> Result<(), AllocError>
+    ensures ok { OnOk result (out.new.tokens
+        ≡ out.old.tokens ++ tokens_of (life_data replaced life.now)) }
+    ensures before { out.new.before ≡ out.old.before }
+{
+    let cells = [
+        Cell::Count(life.sums.asked as u128),
+        Cell::Count(life.sums.asks as u128),
+        delay_of(life),
+        Cell::Count(life.dropped as u128),
+        Cell::Count(life.from as u128),
+        Cell::Count(life.granted),
+        Cell::Name(kind_name(life.spec)),
+        Cell::Count(life.outstanding as u128),
+        Cell::Given(priority_of(life)),
+        Cell::Given(told_if(replaced, life.sums.replaced as u128)),
+        Cell::Count(life.sums.delays.served as u128),
+        Cell::Count(life.sid as u128),
+        Cell::Count(life.to as u128),
+        Cell::Count(life.waiting as u128),
+    ];
+    put_object(out, &LIFE, &cells)
 }

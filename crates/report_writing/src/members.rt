@@ -5,6 +5,7 @@ ghost use Rattle.serde_json.specs.Data.{Members};
 ghost use Rattle.history_writing.specs.Tokens.{tokens_of};
 ghost use Rattle.report_writing.specs.Cells.{cell_data, tokens_to_end};
 ghost use Rattle.report_writing.specs.Report.{rank_name, rank_data, calls_data, use_data, refused_data, with_refusals};
+ghost use Rattle.report_writing.specs.Report.{told_if, told_above_0};
 
 use crate::cell::{Cell, Spread, put_cell, put_object};
 use itoa::Buffer;
@@ -12,12 +13,13 @@ use json::Writer;
 use sched_report::{Calls, POLLED, RankTold, Slots};
 use std::alloc::AllocError;
 
-static RANK: [&str; 7] = [
-    "asks", "delay", "dropped", "granted", "rank", "served", "waiting",
+static RANK: [&str; 8] = [
+    "asks", "delay", "dropped", "granted", "rank", "replaced", "served", "waiting",
 ];
 
-static CALLS: [&str; 9] = [
-    "admit", "ask", "build", "header", "heard", "remove", "reserve", "skip", "status",
+static CALLS: [&str; 13] = [
+    "admit", "ask", "build", "change", "header", "heard", "remove", "replace", "reserve", "rest",
+    "skip", "status", "wake",
 ];
 
 static USES: [&str; 6] = [
@@ -30,9 +32,23 @@ static USES: [&str; 6] = [
 ];
 
 // The places of the refusals' numbers, which are counted from 1, in the ascending order of their texts.
-const BY_TEXT: [u8; 20] = [
-    0, 9, 10, 11, 12, 13, 14, 15, 16, 17, 18, 1, 19, 2, 3, 4, 5, 6, 7, 8,
+const BY_TEXT: [u8; 23] = [
+    0, 9, 10, 11, 12, 13, 14, 15, 16, 17, 18, 1, 19, 20, 21, 22, 2, 3, 4, 5, 6, 7, 8,
 ];
+
+// A number that is told in some reports alone.
+pub(crate) fn told_if(told: bool, number: u128) -> Option<u128>
+    ensures { result ≡ told_if told number }
+{
+    if told { Some(number) } else { None }
+}
+
+// A number that is told where it is not 0.
+fn told_above_0(number: u64) -> Option<u128>
+    ensures { result ≡ told_above_0 number }
+{
+    told_if(number > 0, number as u128)
+}
 
 // The name or the number of a rank.
 fn rank_cell(rank: u8) -> Cell
@@ -45,10 +61,11 @@ fn rank_cell(rank: u8) -> Cell
     }
 }
 
-// Writes the numbers of a rank.
+// Writes the numbers of a rank, with its replaced requests or without.
 #[tactic(auto, unfolding(crate::specs::Report::rank_data))]
-pub(crate) fn put_rank(out: &mut Writer, told: &RankTold) -> Result<(), AllocError>
-    ensures ok { OnOk result (out.new.tokens ≡ out.old.tokens ++ tokens_of (rank_data told.now)) }
+pub(crate) fn put_rank(out: &mut Writer, told: &RankTold, replaced: bool) -> Result<(), AllocError>
+    ensures ok { OnOk result (out.new.tokens
+        ≡ out.old.tokens ++ tokens_of (rank_data replaced told.now)) }
     ensures before { out.new.before ≡ out.old.before }
 {
     let sums = told.numbers.sums;
@@ -64,13 +81,14 @@ pub(crate) fn put_rank(out: &mut Writer, told: &RankTold) -> Result<(), AllocErr
         Cell::Count(sums.dropped),
         Cell::Count(sums.granted),
         rank_cell(told.rank),
+        Cell::Given(told_if(replaced, sums.replaced)),
         Cell::Count(sums.served),
         Cell::Count(sums.waiting),
     ];
     put_object(out, &RANK, &cells)
 }
 
-// Writes how many calls of each kind there were.
+// Writes how many calls of each kind there were, of four kinds where there were any.
 #[tactic(auto, unfolding(crate::specs::Report::calls_data))]
 pub(crate) fn put_calls(out: &mut Writer, calls: &Calls) -> Result<(), AllocError>
     ensures ok { OnOk result (out.new.tokens ≡ out.old.tokens ++ tokens_of (calls_data calls.now)) }
@@ -80,12 +98,16 @@ pub(crate) fn put_calls(out: &mut Writer, calls: &Calls) -> Result<(), AllocErro
         Cell::Count(calls.admit as u128),
         Cell::Count(calls.ask as u128),
         Cell::Count(calls.build as u128),
+        Cell::Given(told_above_0(calls.change)),
         Cell::Count(calls.header as u128),
         Cell::Count(calls.heard as u128),
         Cell::Count(calls.remove as u128),
+        Cell::Given(told_above_0(calls.replace)),
         Cell::Count(calls.reserve as u128),
+        Cell::Given(told_above_0(calls.rest)),
         Cell::Count(calls.skip as u128),
         Cell::Count(calls.status as u128),
+        Cell::Given(told_above_0(calls.wake)),
     ];
     put_object(out, &CALLS, &cells)
 }

@@ -24,26 +24,28 @@ fn put_at(out: &mut Writer, name: &str, cell: Cell) -> Result<(), AllocError>
     put_cell(out, cell)
 }
 
-// Writes the lives, one after the other.
-fn put_lives(out: &mut Writer, lives: &[LifeNumbers]) -> Result<(), AllocError>
-    ensures ok { OnOk result (out.new.tokens ≡ out.old.tokens ++ tokens_of (lives_data lives.now)) }
+// Writes the lives, one after the other, with their replaced requests or without.
+fn put_lives(out: &mut Writer, lives: &[LifeNumbers], replaced: bool) -> Result<(), AllocError>
+    ensures ok { OnOk result (out.new.tokens
+        ≡ out.old.tokens ++ tokens_of (lives_data replaced lives.now)) }
     ensures before { out.new.before ≡ out.old.before }
 {
     out.begin_array()?;
     for life in lives {
-        put_life(out, life)?;
+        put_life(out, life, replaced)?;
     }
     out.end_array()
 }
 
-// Writes the ranks, one after the other.
-fn put_ranks(out: &mut Writer, ranks: &[RankTold]) -> Result<(), AllocError>
-    ensures ok { OnOk result (out.new.tokens ≡ out.old.tokens ++ tokens_of (ranks_data ranks.now)) }
+// Writes the ranks, one after the other, with their replaced requests or without.
+fn put_ranks(out: &mut Writer, ranks: &[RankTold], replaced: bool) -> Result<(), AllocError>
+    ensures ok { OnOk result (out.new.tokens
+        ≡ out.old.tokens ++ tokens_of (ranks_data replaced ranks.now)) }
     ensures before { out.new.before ≡ out.old.before }
 {
     out.begin_array()?;
     for told in ranks {
-        put_rank(out, told)?;
+        put_rank(out, told, replaced)?;
     }
     out.end_array()
 }
@@ -61,15 +63,16 @@ fn put_report(
         ≡ out.old.tokens ++ tokens_of (report_data totals.now refused.now lives.now ranks.now)) }
     ensures before { out.new.before ≡ out.old.before }
 {
+    let replaced = totals.replaces > 0;
     out.begin_object()?;
     out.key("calls")?;
     put_calls(out, &totals.calls)?;
     put_at(out, "frames", Cell::Count(totals.frames as u128))?;
     put_at(out, "from", Cell::Maybe(totals.from))?;
     out.key("lives")?;
-    put_lives(out, lives)?;
+    put_lives(out, lives, replaced)?;
     out.key("priorities")?;
-    put_ranks(out, ranks)?;
+    put_ranks(out, ranks, replaced)?;
     out.key("refused")?;
     put_refused(out, refused)?;
     put_at(out, "skips", Cell::Count(totals.skips as u128))?;

@@ -35,11 +35,12 @@ pub fn report_text(
     order_lives(&mut lives, all)?;
     let ranks = ranks_told(alloc, reporter)?;
     let totals = reporter.totals();
+    let replaced = totals.replaces > 0;
     let mut words = Vec::new(alloc);
     push_head(&mut words, ticks, &totals)?;
     push_uses(&mut words, &totals.slots, &totals.calls)?;
     push_refused(&mut words, reporter.refused())?;
-    push_ranks(&mut words, ticks, &ranks)?;
-    push_flows(&mut words, ticks, &lives, all)?;
+    push_ranks(&mut words, ticks, replaced, &ranks)?;
+    push_flows(&mut words, ticks, replaced, &lives, all)?;
     Ok(words)
 }

@@ -1,9 +1,9 @@
 //! Numbers in the columns of a table.
 
 ghost use Rattle.std.specs.Prelude.{◌≡◌, ◌≤◌, ◌<◌, ◌+◌, ◌*◌, ◌^◌, ◌++◌, OnOk, decimal, length};
-ghost use Rattle.report_writing.specs.Columns.{spaces, left, right, unit_name, in_unit, unit_for, number_column};
-ghost use Rattle.report_writing.specs.Columns.{number_or_none, microseconds, thousandths_text, ms_text, ms_column};
-ghost use Rattle.report_writing.specs.Columns.{ms_or_none, in_ten_thousand, hundredths_text, percent_column};
+ghost use Rattle.report_writing.specs.Columns.{spaces, left, right, narrower, unit_name, in_unit, unit_for};
+ghost use Rattle.report_writing.specs.Columns.{number_column, number_or_none, microseconds, thousandths_text, ms_text};
+ghost use Rattle.report_writing.specs.Columns.{ms_column, ms_or_none, in_ten_thousand, hundredths_text, percent_column};
 ghost use Rattle.report_writing.specs.Columns.{bits_a_second, fitted, thousandths_end};
 
 use itoa::Buffer;
@@ -50,6 +50,18 @@ pub(crate) fn push_decimal(words: &mut Vec<u8>, number: u64) -> Result<(), Alloc
 {
     let mut buffer = Buffer::new();
     words.extend_from_slice(buffer.format(number).as_bytes())
+}
+
+// So many places of a column, or one fewer where its table has a column more.
+pub(crate) fn narrower(more: bool, places: usize) -> usize
+    ensures value { result ≡ narrower more places }
+    ensures small { result ≤ places }
+{
+    if more {
+        places.saturating_sub(1)
+    } else {
+        places
+    }
 }
 
 // What stands behind a number that is told in so many times a thousand.

@@ -16,6 +16,21 @@ is_periodic (Unsolicited size interval jitter grants) = true
 is_periodic (Polled interval jitter rate burst) = true
 is_periodic (BestEffort priority rate burst) = false
 
+-- whether two flows are of one kind: both unsolicited, both polled, or both best effort
+abbrev pub is_kind_of : FlowSpec → FlowSpec → Bool
+is_kind_of (Unsolicited size interval jitter grants) (Unsolicited size′ interval′ jitter′ grants′) = true
+is_kind_of (Polled interval jitter rate burst) (Polled interval′ jitter′ rate′ burst′) = true
+is_kind_of (BestEffort priority rate burst) (BestEffort priority′ rate′ burst′) = true
+is_kind_of spec other = false
+
+-- whether two flows may stand at one place in the cycle: periodic ones with the same interval, jitter, size and grants
+abbrev pub has_place_of : FlowSpec → FlowSpec → Bool
+has_place_of (Unsolicited size interval jitter grants) (Unsolicited size′ interval′ jitter′ grants′) =
+    size == size′ && interval == interval′ && jitter == jitter′ && grants == grants′
+has_place_of (Polled interval jitter rate burst) (Polled interval′ jitter′ rate′ burst′) =
+    interval == interval′ && jitter == jitter′
+has_place_of spec other = false
+
 -- whether the flow is polled
 abbrev pub is_polled : FlowSpec → Bool
 is_polled (Unsolicited size interval jitter grants) = false

@@ -2,14 +2,16 @@
 use Rattle.std.specs.Prelude.{None, Some, Result, Ok, Err}
 use Rattle.map_codec.specs.WireMap.{IsWellFormed}
 use Rattle.sched_calls.specs.declared.reply.Reply.{Reply}
-use Rattle.sched_calls.specs.declared.reply.Reply.TheVariants.{Admitted, Removed, Taken, Noted, Reserved, Built}
-use Rattle.sched_calls.specs.declared.reply.Reply.TheVariants.{Skipped, Flow, Refused}
+use Rattle.sched_calls.specs.declared.reply.Reply.TheVariants.{Admitted, Changed, Removed, Taken, Noted, Reserved}
+use Rattle.sched_calls.specs.declared.reply.Reply.TheVariants.{Built, Skipped, Flow, Refused}
 use Rattle.sched_calls.specs.declared.reply.Unrecorded.{Unrecorded}
 
 -- the reply has lists: a placement's starts, or a MAP
 abbrev pub OwnsMemory : Reply → Type 0
 OwnsMemory (Admitted None) = ⊥
 OwnsMemory (Admitted (Some placement)) = Unit {0}
+OwnsMemory (Changed None) = ⊥
+OwnsMemory (Changed (Some placement)) = Unit {0}
 OwnsMemory Removed = ⊥
 OwnsMemory Taken = ⊥
 OwnsMemory Noted = ⊥
@@ -22,6 +24,7 @@ OwnsMemory (Refused refusal) = ⊥
 -- a MAP in the reply is well formed
 abbrev pub IsEncodable : Reply → Type 0
 IsEncodable (Admitted placement) = Unit {0}
+IsEncodable (Changed placement) = Unit {0}
 IsEncodable Removed = Unit {0}
 IsEncodable Taken = Unit {0}
 IsEncodable Noted = Unit {0}

@@ -46,4 +46,21 @@ pub enum Call {
     },
     /// Sets the UCD count and the exponents of the backoff windows for every MAP from the next one on.
     Header(Header),
+    /// Hands in a bandwidth request, heard by this receiver at this minislot, that supersedes those before: the flow
+    /// then waits for so much and no more. So does a request that tells the depth of a queue, and so does each request
+    /// of a modem that may have one alone.
+    Replace {
+        receiver: u8,
+        sid: u16,
+        amount: Amount,
+        heard: u64,
+    },
+    /// Gives a live flow these parameters in the place of its own, as a Dynamic Service Change does. What it asked for
+    /// and what it was granted stay.
+    Change(u16, FlowSpec),
+    /// Lets an unsolicited flow rest: it is polled in the place of its grants, as unsolicited grants with activity
+    /// detection are.
+    Rest(u16),
+    /// Gives an unsolicited flow that rests its grants again.
+    Wake(u16),
 }

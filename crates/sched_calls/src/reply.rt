@@ -61,6 +61,12 @@ pub enum Refusal {
     ReservesFull,
     /// An exponent of a backoff window is above 15.
     BadBackoff,
+    /// The flow is live with parameters of another kind.
+    OtherKind,
+    /// The flow is not unsolicited.
+    NotUnsolicited,
+    /// The grant of the flow has fewer minislots than a poll.
+    TooShort,
 }
 
 /// What the scheduler answers to a call that it records.
@@ -68,11 +74,13 @@ pub enum Refusal {
 pub enum Reply {
     /// The flow is live, a periodic one with this placement.
     Admitted(Option<Placement>),
+    /// The flow has its new parameters, a periodic one with this placement.
+    Changed(Option<Placement>),
     /// The flow is forgotten.
     Removed,
     /// The request is counted.
     Taken,
-    /// The progress or the header is noted.
+    /// The progress, the header, or that the flow rests or wakes, is noted.
     Noted,
     /// The opportunity waits for a MAP.
     Reserved,
@@ -99,6 +107,8 @@ impl Reply {
         Ok(match self {
             Reply::Admitted(None) => Reply::Admitted(None),
             Reply::Admitted(Some(placement)) => { Reply::Admitted(Some(placement.copy(alloc)?)) }
+            Reply::Changed(None) => Reply::Changed(None),
+            Reply::Changed(Some(placement)) => { Reply::Changed(Some(placement.copy(alloc)?)) }
             Reply::Removed => Reply::Removed,
             Reply::Taken => Reply::Taken,
             Reply::Noted => Reply::Noted,

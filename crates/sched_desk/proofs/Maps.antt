@@ -16,11 +16,11 @@ use Rattle.sched_calls.specs.declared.reply.Refusal.{Refusal}
 use Rattle.sched_calls.specs.declared.reply.Reply.{Reply}
 use Rattle.sched_calls.specs.declared.reply.Reply.TheVariants as replies
 use Rattle.sched_calls.specs.declared.reply.Entry.{Entry}
-use Rattle.sched_history.specs.Life.{Life, life_of, flow_in_life}
+use Rattle.sched_history.specs.Life.{Admission, Life, life_of, given_in, flow_in_life}
 use Rattle.sched_history.specs.Time.{is_built}
 use Rattle.sched_history.specs.Refusal.{refusal_of}
-use Rattle.sched_history.specs.History.{PlacesOrRefuses, AnswersAdmit, flow_status, map_by, IsNextMap, Answers, IsStep}
-use Rattle.sched_history.specs.History.{IsLegal}
+use Rattle.sched_history.specs.History.{PlacesOrRefuses, AnswersAdmit, PlacesAnew, AnswersChange, flow_status, map_by}
+use Rattle.sched_history.specs.History.{IsNextMap, Answers, IsStep, IsLegal}
 use Rattle.sched_desk.specs.Closed.{HasLawfulMaps}
 
 module _ (c : Config) (h : List Entry) (m : FrameMap) where
@@ -49,6 +49,27 @@ module _ (c : Config) (h : List Entry) (m : FrameMap) where
   admitted (Polled interval jitter rate burst) answers = placed (Polled interval jitter rate burst) answers
   admitted (BestEffort priority rate burst) answers = not_built (replies.Admitted None) refl answers
 
+  -- or to a change
+  placed_anew : (sid : ℕ) (spec : FlowSpec) → PlacesAnew c h sid spec (replies.Built m) → IsNextMap c h m
+  placed_anew sid spec answers = ⊎_elim
+      (λ one. not_built (replies.Changed (Some one.0)) refl one.2)
+      (λ none_there. not_built (replies.Refused _) refl none_there.1)
+      answers
+
+  given : (sid : ℕ) (a : Admission) (spec : FlowSpec) → AnswersChange c h sid a spec (replies.Built m) → IsNextMap c h m
+  given sid a spec answers = ⊎_elim
+      (λ kept. not_built (replies.Changed (Some kept.1.0)) refl kept.1.2)
+      (λ moved. ⊎_elim
+      (λ anew. placed_anew sid spec anew.2)
+      (λ unplaced. not_built (replies.Changed None) refl unplaced.1)
+      moved)
+      answers
+
+  changed : (life : Option Life) (sid : ℕ) (spec : FlowSpec)
+      → MatchOption life ⊥ (λ l. AnswersChange c h sid (given_in sid l) spec (replies.Built m)) → IsNextMap c h m
+  changed None sid spec answers = absurd answers
+  changed (Some l) sid spec answers = given sid (given_in sid l) spec answers
+
   status : (life : Option Life) (sid : ℕ) → MatchOption life ⊥ (λ l. replies.Built m
       ≡ flow_status (flow_in_life c sid l))
       → IsNextMap c h m
@@ -68,6 +89,10 @@ module _ (c : Config) (h : List Entry) (m : FrameMap) where
   answered (calls.Status sid) answers = status (life_of sid h) sid answers
   answered (calls.Reserve usage slots) answers = not_built replies.Reserved refl answers
   answered (calls.Header header) answers = not_built replies.Noted refl answers
+  answered (calls.Replace receiver sid amount heard) answers = not_built replies.Taken refl answers
+  answered (calls.Change sid spec) answers = changed (life_of sid h) sid spec answers
+  answered (calls.Rest sid) answers = not_built replies.Noted refl answers
+  answered (calls.Wake sid) answers = not_built replies.Noted refl answers
 
   unrefused : (o : Option Refusal) (call : Call)
       → MatchOption o (Answers c h call (replies.Built m)) (λ r. replies.Built m ≡ replies.Refused r) → IsNextMap c h m

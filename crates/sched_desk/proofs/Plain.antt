@@ -13,8 +13,9 @@ use Rattle.sched_calls.specs.declared.reply.Entry.{Entry}
 use Rattle.sched_calls.specs.declared.reply.Refusal.{Refusal}
 use Rattle.sched_calls.specs.declared.reply.Reply.{Reply}
 use Rattle.sched_calls.specs.declared.reply.Reply.TheVariants as replies
-use Rattle.sched_history.specs.History.{PlacesOrRefuses, AnswersAdmit, flow_status, map_by, Answers}
-use Rattle.sched_history.specs.Life.{Life, life_of, flow_in_life}
+use Rattle.sched_history.specs.History.{PlacesOrRefuses, AnswersAdmit, PlacesAnew, AnswersChange, flow_status, map_by}
+use Rattle.sched_history.specs.History.{Answers}
+use Rattle.sched_history.specs.Life.{Admission, Life, life_of, given_in, flow_in_life}
 use Rattle.sched_history.specs.Refusal.{refusal_of}
 use Rattle.sched_desk.specs.Build.{BuildsNoMap}
 
@@ -27,6 +28,22 @@ module _ (c : Config) (h : List Entry) where
       placed (Unsolicited size interval jitter grants) reply answers
   admitted (Polled interval jitter rate burst) reply answers = placed (Polled interval jitter rate burst) reply answers
   admitted (BestEffort priority rate burst) reply answers = ap map_by answers
+
+  placed_anew : (sid : ℕ) (spec : FlowSpec) (reply : Reply) → PlacesAnew c h sid spec reply → map_by reply ≡ None
+  placed_anew sid spec reply answers =
+      ⊎_elim (λ one. ap map_by one.2) (λ none_there. ap map_by none_there.1) answers
+
+  given : (sid : ℕ) (a : Admission) (spec : FlowSpec) (reply : Reply) → AnswersChange c h sid a spec reply
+      → map_by reply ≡ None
+  given sid a spec reply answers = ⊎_elim
+      (λ kept. ap map_by kept.1.2)
+      (λ moved. ⊎_elim (λ anew. placed_anew sid spec reply anew.2) (λ unplaced. ap map_by unplaced.1) moved)
+      answers
+
+  changed : (life : Option Life) (sid : ℕ) (spec : FlowSpec) (reply : Reply)
+      → MatchOption life ⊥ (λ l. AnswersChange c h sid (given_in sid l) spec reply) → map_by reply ≡ None
+  changed None sid spec reply answers = absurd answers
+  changed (Some l) sid spec reply answers = given sid (given_in sid l) spec reply answers
 
   status : (f : LiveFlow) → map_by (flow_status f) ≡ None
   status f = by (takes_requests f.spec)
@@ -52,6 +69,10 @@ module _ (c : Config) (h : List Entry) where
   answered (calls.Status sid) other reply answers = shown (life_of sid h) sid reply answers
   answered (calls.Reserve usage slots) other reply answers = ap map_by answers
   answered (calls.Header header) other reply answers = ap map_by answers
+  answered (calls.Replace receiver sid amount heard) other reply answers = ap map_by answers
+  answered (calls.Change sid spec) other reply answers = changed (life_of sid h) sid spec reply answers
+  answered (calls.Rest sid) other reply answers = ap map_by answers
+  answered (calls.Wake sid) other reply answers = ap map_by answers
 
   by_refusal : (o : Option Refusal) (call : Call) → ((now : ℕ) → call ≢ calls.Build now) → (reply : Reply)
       → MatchOption o (Answers c h call reply) (λ refusal. reply ≡ replies.Refused refusal) → map_by reply ≡ None

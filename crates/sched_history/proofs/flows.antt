@@ -4,3 +4,7 @@ pub mod FlowCalls
 pub mod Admissions
 pub mod MapGrants
 pub mod BuildCall
+pub mod ReplaceCall
+pub mod RestCalls
+pub mod ChangeCall
+pub mod Quiet

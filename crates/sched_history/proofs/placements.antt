@@ -1,4 +1,5 @@
 -- The live placements of a legal history: whose they are, how many, and when they recur.
+pub mod Given
 pub mod Counts
 pub mod PeriodicFlows
 pub mod PeriodicGrants

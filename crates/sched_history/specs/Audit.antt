@@ -9,7 +9,7 @@ use Rattle.sched_history.specs.declared.auditing.sameness.FlatReply.{FlatReply}
 use Rattle.sched_history.specs.declared.auditing.sameness.FlatReply.TheVariants as flat
 use Rattle.sched_calls.specs.declared.call.Call.{Call}
 use Rattle.sched_calls.specs.declared.call.Call.TheVariants.{Admit, Remove, Ask, Heard, Build, Skip, Status}
-use Rattle.sched_calls.specs.declared.call.Call.TheVariants.{Reserve, Header}
+use Rattle.sched_calls.specs.declared.call.Call.TheVariants.{Reserve, Header, Replace, Change, Rest, Wake}
 use Rattle.sched_calls.specs.declared.reply.Reply.{Reply}
 use Rattle.sched_calls.specs.declared.reply.Reply.TheVariants as replies
 use Rattle.sched_calls.specs.declared.reply.Entry.{Entry}
@@ -33,11 +33,17 @@ is_told (Skip now) = true
 is_told (Status sid) = true
 is_told (Reserve usage slots) = true
 is_told (Header header) = true
+is_told (Replace receiver sid amount heard) = true
+is_told (Change sid spec) = not (is_periodic spec)
+is_told (Rest sid) = true
+is_told (Wake sid) = true
 
 -- a reply without lists
 abbrev pub flat_of : Reply → Option FlatReply
 flat_of (replies.Admitted None) = Some flat.Admitted
 flat_of (replies.Admitted (Some p)) = None
+flat_of (replies.Changed None) = Some flat.Changed
+flat_of (replies.Changed (Some p)) = None
 flat_of replies.Removed = Some flat.Removed
 flat_of replies.Taken = Some flat.Taken
 flat_of replies.Noted = Some flat.Noted

@@ -7,14 +7,14 @@ use Rattle.map_codec.specs.declared.element.Element.{Element}
 use Rattle.map_codec.specs.declared.wire_map.TheConstants.{MAX_ELEMENTS}
 use Rattle.map_codec.specs.Element.{nulls}
 use Rattle.sched_calls.specs.FlowSpec.{rate_of, burst_of, interval_frames, jitter_slots}
-use Rattle.flow_book.specs.Flows.{LiveFlow, granted}
+use Rattle.flow_book.specs.Flows.{LiveFlow, granted, in_period}
 use Rattle.flow_book.specs.Ceiling.{KeepsCeiling}
 use Rattle.periodic.specs.Placement.{Placed, phase_of, offset_of}
 use Rattle.sched_calls.specs.declared.frame_map.FrameMap.{FrameMap}
 use Rattle.map_build.specs.EachAfter.{EachAfter}
 use Rattle.map_build.specs.FrameMap.{request_region, null_element}
 use Rattle.sched_calls.specs.declared.call.Call.{Call}
-use Rattle.sched_calls.specs.declared.call.Call.TheVariants.{Ask}
+use Rattle.sched_calls.specs.declared.call.Call.TheVariants.{Ask, Replace}
 use Rattle.sched_calls.specs.declared.reply.Reply.{Reply}
 use Rattle.sched_calls.specs.declared.reply.Reply.TheVariants.{Taken, Built}
 use Rattle.sched_calls.specs.declared.reply.Entry.{Entry}
@@ -32,9 +32,9 @@ maps_of h = filter_map (λ e. map_by e.reply) h
 abbrev pub IsWithinAsked : LiveFlow → Type 0
 IsWithinAsked f = granted f ≤ f.asked
 
--- the flow's grants keep its rate and burst over every window
+-- the flow's grants in the present period of its ceiling keep its rate and burst over every window
 abbrev pub IsWithinRate : Config → LiveFlow → Type 0
-IsWithinRate c f = KeepsCeiling c (rate_of f.spec) (burst_of f.spec) f.grants
+IsWithinRate c f = KeepsCeiling c (rate_of f.spec) (burst_of f.spec) (in_period f)
 
 -- each element begins before the next
 abbrev pub OffsetsAscend : List Element → Type 0
@@ -99,6 +99,7 @@ KeepsTimes c table reply = Unit {0}
 -- a request that was accepted was heard at or after the acknowledge time of each of these MAPs
 abbrev pub IsHeardAfter : List FrameMap → Call → Reply → Type 0
 IsHeardAfter maps (Ask receiver sid amount heard) Taken = AllByRecursion (λ m. m.ack ≤ heard) maps
+IsHeardAfter maps (Replace receiver sid amount heard) Taken = AllByRecursion (λ m. m.ack ≤ heard) maps
 IsHeardAfter maps call reply = Unit {0}
 
 -- What an operator may rely on after these entries

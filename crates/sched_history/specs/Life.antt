@@ -1,6 +1,8 @@
 -- The lives of flows in a history: admissions, removals, requests and grants.
-use Rattle.std.specs.Prelude.{ℕ, ◌+◌, ◌&&◌, nat_lt, ◌==◌, List, [], ◌∷◌, ◌++◌, sum_by, filter_map, flat_map, zip}
-use Rattle.std.specs.Prelude.{Option, None, Some, option_map, option_and_then, if◌then◌else◌}
+use Rattle.std.specs.Prelude.{ℕ, ◌+◌, Bool, true, false, not, ◌&&◌, nat_lt, ◌==◌, List, [], ◌∷◌, ◌++◌, length}
+use Rattle.std.specs.Prelude.{sum_by, filter_map, flat_map, zip, Option, None, Some, option_map, option_and_then}
+use Rattle.std.specs.Prelude.{if◌then◌else◌}
+use Rattle.std.specs.Option.{option_map_or}
 use Rattle.minislots.specs.declared.config.Config.{Config}
 use Rattle.map_codec.specs.declared.element.Element.{Element}
 use Rattle.sched_calls.specs.Amount.{requested}
@@ -9,6 +11,7 @@ use Rattle.flow_book.specs.declared.flow.Grant.{Grant}
 use Rattle.flow_book.specs.declared.batches.Batches.{Batches}
 use Rattle.flow_book.specs.Batches.{no_batches, with_request}
 use Rattle.flow_book.specs.Flows.{LiveFlow, bytes_of}
+use Rattle.flow_book.specs.Book.{has_ceiling_of}
 use Rattle.sched_calls.specs.declared.placement.Placement.{Placement}
 use Rattle.periodic.specs.Placement.{count_from, Placed}
 use Rattle.sched_calls.specs.declared.frame_map.FrameMap.{FrameMap}
@@ -17,9 +20,9 @@ use Rattle.sched_calls.specs.declared.call.Call.TheVariants as calls
 use Rattle.sched_calls.specs.declared.reply.Reply.{Reply}
 use Rattle.sched_calls.specs.declared.reply.Reply.TheVariants as replies
 use Rattle.sched_calls.specs.declared.reply.Entry.{Entry}
-use Rattle.sched_history.specs.Latest.{latest}
+use Rattle.sched_history.specs.Latest.{up_to, latest}
 
--- an admission: the flow's parameters, and its placement where it is periodic
+-- what an admission or a change gives a flow: its parameters, and its placement where it is periodic
 pub record Admission : Type 0 where
   pub spec : FlowSpec
   pub placement : Option Placement
@@ -54,14 +57,20 @@ life_after Ends after = None
 abbrev pub life_of : ℕ → List Entry → Option Life
 life_of sid h = option_and_then (λ found. life_after found.said found.after) (latest (turn_of sid) h)
 
--- the bytes of an accepted request of this SID
-abbrev pub asked_by : Config → ℕ → Call → Reply → ℕ
-asked_by c sid (calls.Ask receiver other amount heard) replies.Taken = if other == sid then requested c amount else 0
-asked_by c sid call reply = 0
+-- the bytes of an accepted request of this SID, which are asked beside those before
+abbrev pub added_by : Config → ℕ → Call → Reply → ℕ
+added_by c sid (calls.Ask receiver other amount heard) replies.Taken = if other == sid then requested c amount else 0
+added_by c sid call reply = 0
 
--- the bytes asked under this SID in these entries
-abbrev pub asked_in : Config → ℕ → List Entry → ℕ
-asked_in c sid entries = sum_by (λ e. asked_by c sid e.call e.reply) entries
+-- the bytes of these requests
+abbrev pub added_in : Config → ℕ → List Entry → ℕ
+added_in c sid entries = sum_by (λ e. added_by c sid e.call e.reply) entries
+
+-- the bytes that an accepted request of this SID leaves outstanding in the place of those before
+abbrev pub replaced_by : Config → ℕ → Call → Reply → Option ℕ
+replaced_by c sid (calls.Replace receiver other amount heard) replies.Taken =
+    if other == sid then Some (requested c amount) else None
+replaced_by c sid call reply = None
 
 -- the data grant that an element with this byte count is, where it is one to this SID, in a MAP that starts there
 abbrev pub grant_by : ℕ → ℕ → Element × ℕ → Option Grant
@@ -81,11 +90,21 @@ grants_by sid reply = []
 abbrev pub grants_since : ℕ → List Entry → List Grant
 grants_since sid entries = flat_map (λ e. grants_by sid e.reply) entries
 
+-- the bytes asked under this SID in these entries: those of its requests, and since the latest that left its bytes in
+-- the place of those before, what was granted up to it, these bytes, and those of the requests after it
+abbrev pub asked_in : Config → ℕ → List Entry → ℕ
+asked_in c sid entries = option_map_or
+    (λ found. bytes_of (grants_since sid (up_to entries found.after)) + found.said + added_in c sid found.after)
+    (latest (λ e. replaced_by c sid e.call e.reply) entries)
+    (added_in c sid entries)
+
 -- the batches of the requests of this SID after an entry, of a flow that had asked and was granted so many bytes: a MAP
 -- leaves them, since which of them are over is read in what is granted
 abbrev pub batches_by : Config → ℕ → Call → Reply → Batches → ℕ → ℕ → Batches
 batches_by c sid (calls.Ask receiver other amount heard) replies.Taken b asked granted =
     if other == sid then with_request b asked granted (requested c amount) heard else b
+batches_by c sid (calls.Replace receiver other amount heard) replies.Taken b asked granted =
+    if other == sid then with_request b granted granted (requested c amount) heard else b
 batches_by c sid call reply b asked granted = b
 
 -- the batches after more entries of a life, which follow these
@@ -99,22 +118,69 @@ batches_after c sid b before (e ∷ entries) = batches_after c sid
 abbrev pub batches_in : Config → ℕ → List Entry → Batches
 batches_in c sid entries = batches_after c sid no_batches [] entries
 
+-- what an accepted change of this SID gives
+abbrev pub change_by : ℕ → Call → Reply → Option Admission
+change_by sid (calls.Change other spec) (replies.Changed placement) =
+    if other == sid then Some (record { spec = spec; placement = placement }) else None
+change_by sid call reply = None
+
+-- what a flow that was given this first has after these entries of its life: what the latest change gave it
+abbrev pub given_after : ℕ → Admission → List Entry → Admission
+given_after sid first entries =
+    option_map_or (λ found. found.said) (latest (λ e. change_by sid e.call e.reply) entries) first
+
+-- a change gives a flow of these parameters another ceiling
+abbrev pub changes_ceiling : ℕ → FlowSpec → Entry → Bool
+changes_ceiling sid spec e =
+    option_map_or (λ a. not (has_ceiling_of spec a.spec)) (change_by sid e.call e.reply) false
+
+-- the entries of a life after the latest change that gave it another ceiling, all where there was none: these follow
+-- those before, by which the flow has these parameters
+abbrev pub period_after : ℕ → Admission → List Entry → List Entry → List Entry
+period_after sid given period [] = period
+period_after sid given period (e ∷ entries) =
+    if changes_ceiling sid given.spec e then period_after sid (given_after sid given (e ∷ [])) [] entries
+    else period_after sid (given_after sid given (e ∷ [])) (period ++ e ∷ []) entries
+
+-- the entries of a life in the present period of its ceiling
+abbrev pub period_of : ℕ → Life → List Entry
+period_of sid life = period_after sid life.admission [] life.since
+
+-- whether an unsolicited flow rests from an entry on: while nothing says so it does not
+abbrev pub rest_by : ℕ → Call → Reply → Option Bool
+rest_by sid (calls.Rest other) replies.Noted = if other == sid then Some true else None
+rest_by sid (calls.Wake other) replies.Noted = if other == sid then Some false else None
+rest_by sid (calls.Change other spec) (replies.Changed placement) = if other == sid then Some false else None
+rest_by sid call reply = None
+
+-- whether it rests after these entries of its life
+abbrev pub rests_in : ℕ → List Entry → Bool
+rests_in sid entries = option_map_or (λ found. found.said) (latest (λ e. rest_by sid e.call e.reply) entries) false
+
+-- what the flow of a life has: its parameters, and its placement where it is periodic
+abbrev pub given_in : ℕ → Life → Admission
+given_in sid life = given_after sid life.admission life.since
+
 -- the live flow that a life is
 abbrev pub flow_in_life : Config → ℕ → Life → LiveFlow
 flow_in_life c sid life =
     record {
       sid = sid;
-      spec = life.admission.spec;
+      spec = (given_in sid life).spec;
       asked = asked_in c sid life.since;
       batches = batches_in c sid life.since;
-      grants =
-          grants_since sid life.since;
+      grants = grants_since sid life.since;
+      earlier = length (grants_since sid (up_to life.since (period_of sid life)));
     }
 
 -- the placed flow that a life is
 abbrev pub placed_in_life : ℕ → Life → Option Placed
-placed_in_life sid life =
-    option_map (λ p. record { sid = sid; spec = life.admission.spec; placement = p }) life.admission.placement
+placed_in_life sid life = option_map (λ p. record {
+  sid = sid;
+  spec = (given_in sid life).spec;
+  placement = p;
+  rests = rests_in sid life.since;
+}) (given_in sid life).placement
 
 -- the greatest SID of a flow
 abbrev pub last_sid : ℕ

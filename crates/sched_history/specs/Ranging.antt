@@ -4,7 +4,7 @@ use Rattle.std.specs.Prelude.{length, Some, Contains}
 use Rattle.std.specs.List.{AllByRecursion, slice_get}
 use Rattle.minislots.specs.declared.config.Config.{Config}
 use Rattle.map_codec.specs.declared.wire_map.WireMap.{WireMap}
-use Rattle.periodic.specs.Placement.{spots_in}
+use Rattle.periodic.specs.Placement.{due_in}
 use Rattle.sched_calls.specs.declared.opportunity.Header.{Header}
 use Rattle.sched_calls.specs.declared.opportunity.Opportunity.{Opportunity}
 use Rattle.map_build.specs.EachAfter.{EachAfter}
@@ -60,7 +60,7 @@ MeetsWaiting before reply = AllByRecursion (λ o. Contains (waiting_in (reserves
 abbrev pub MeetsFirst : Config → List Entry → Reply → Type 0
 MeetsFirst c before (Built m) =
     (o : Opportunity) → slice_get (waiting_in (reserves_of before)) 0 ≡ Some o → Contains (offers_of m.wire.elements) o
-    ↔ HasGap c (spots_in c (next_after c before / c.frame) (table_of before)) o.slots
+    ↔ HasGap c (due_in c (next_after c before / c.frame) (table_of before)) o.slots
 MeetsFirst c before reply = Unit {0}
 
 -- the header of a payload

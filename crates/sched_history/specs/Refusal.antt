@@ -6,21 +6,24 @@ use Rattle.minislots.specs.declared.TheConstants.{MAX_ASK}
 use Rattle.minislots.specs.declared.config.Config.{Config}
 use Rattle.sched_calls.specs.declared.amount.Amount.{Amount}
 use Rattle.sched_calls.specs.Amount.{requested}
-use Rattle.sched_calls.specs.FlowSpec.{is_periodic, grants_of, takes_requests, first_fault}
+use Rattle.sched_calls.specs.declared.spec.FlowSpec.{FlowSpec}
+use Rattle.sched_calls.specs.FlowSpec.{is_periodic, is_kind_of, periodic_slots, grants_of, takes_requests, first_fault}
+use Rattle.flow_book.specs.Book.{without}
 use Rattle.sched_calls.specs.declared.opportunity.Usage.{Usage}
 use Rattle.sched_calls.specs.declared.opportunity.Usage.TheVariants.{Initial, Station}
 use Rattle.sched_calls.specs.declared.call.TheConstants.{MAX_RESERVES}
 use Rattle.sched_calls.specs.declared.call.Call.{Call}
 use Rattle.sched_calls.specs.declared.call.Call.TheVariants.{Admit, Remove, Ask, Heard, Build, Skip, Status}
-use Rattle.sched_calls.specs.declared.call.Call.TheVariants.{Reserve, Header}
+use Rattle.sched_calls.specs.declared.call.Call.TheVariants.{Reserve, Header, Replace, Change, Rest, Wake}
 use Rattle.sched_calls.specs.declared.reply.Refusal.{Refusal}
 use Rattle.sched_calls.specs.declared.reply.Refusal.TheVariants.{BadSid, SidLive, BadFlow, FlowsFull, PeriodicFull}
 use Rattle.sched_calls.specs.declared.reply.Refusal.TheVariants.{NoFlow, NotAsking, BadReceiver, BadBytes, Acked}
 use Rattle.sched_calls.specs.declared.reply.Refusal.TheVariants.{Ahead, Backwards, BadClock}
 use Rattle.sched_calls.specs.declared.reply.Refusal.TheVariants.{TooEarly, Late, NotLate}
-use Rattle.sched_calls.specs.declared.reply.Refusal.TheVariants.{BadLength, ReservesFull, BadBackoff}
+use Rattle.sched_calls.specs.declared.reply.Refusal.TheVariants.{BadLength, ReservesFull, BadBackoff, OtherKind}
+use Rattle.sched_calls.specs.declared.reply.Refusal.TheVariants.{NotUnsolicited, TooShort}
 use Rattle.sched_calls.specs.declared.reply.Entry.{Entry}
-use Rattle.sched_history.specs.Life.{last_sid, life_of, flows_of}
+use Rattle.sched_history.specs.Life.{last_sid, life_of, given_in, flows_of}
 use Rattle.sched_history.specs.Time.{next_after, progress_of}
 use Rattle.sched_history.specs.Reserves.{reserves_of}
 
@@ -53,6 +56,10 @@ most_exponent = 15
 abbrev pub is_bad_amount : Config → Amount → Bool
 is_bad_amount c amount = requested c amount == 0 || nat_lt most_bytes (requested c amount)
 
+-- whether no request may leave so much outstanding in the place of what was: too many bytes
+abbrev pub is_great_amount : Config → Amount → Bool
+is_great_amount c amount = nat_lt most_bytes (requested c amount)
+
 -- whether no flow can have this SID
 abbrev pub bad_sid : ℕ → Bool
 bad_sid sid = sid == 0 || nat_lt last_sid sid
@@ -61,9 +68,26 @@ bad_sid sid = sid == 0 || nat_lt last_sid sid
 abbrev pub is_live : ℕ → List Entry → Bool
 is_live sid h = is_some (life_of sid h)
 
+-- whether this is so of the present parameters of the live flow of this SID
+abbrev pub has_live : (FlowSpec → Bool) → ℕ → List Entry → Bool
+has_live test sid h =
+    option_map_or (λ life. test (given_in sid life).spec) (life_of sid h) false
+
 -- whether the live flow of this SID does not ask for bytes
 abbrev pub is_silent : ℕ → List Entry → Bool
-is_silent sid h = option_map_or (λ life. not (takes_requests life.admission.spec)) (life_of sid h) false
+is_silent sid h = has_live (λ spec. not (takes_requests spec)) sid h
+
+-- whether a flow is unsolicited
+abbrev pub is_unsolicited : FlowSpec → Bool
+is_unsolicited spec = is_periodic spec && not (takes_requests spec)
+
+-- whether a flow's grant has fewer minislots than a poll
+abbrev pub is_short_of_poll : Config → FlowSpec → Bool
+is_short_of_poll c spec = nat_lt (periodic_slots c spec) c.poll_slots
+
+-- the grants per interval of the live flows but that of this SID
+abbrev pub other_grants : Config → ℕ → List Entry → ℕ
+other_grants c sid h = sum_by (λ f. grants_of f.spec) (without sid (flows_of c h))
 
 -- the grants per interval of the live flows
 abbrev pub periodic_grants : Config → List Entry → ℕ
@@ -96,6 +120,30 @@ refusal_of c h (Ask receiver sid amount heard) = first_of (
     refused_if (is_bad_amount c amount) BadBytes ∷
     refused_if (nat_lt heard (progress_of c receiver h)) (Acked (progress_of c receiver h)) ∷
     refused_if (nat_le (next_after c h) heard) (Ahead (next_after c h)) ∷ [])
+refusal_of c h (Replace receiver sid amount heard) = first_of (
+    refused_if (bad_sid sid) BadSid ∷
+    refused_if (not (is_live sid h)) NoFlow ∷
+    refused_if (is_silent sid h) NotAsking ∷
+    refused_if (nat_le c.receivers receiver) BadReceiver ∷
+    refused_if (is_great_amount c amount) BadBytes ∷
+    refused_if (nat_lt heard (progress_of c receiver h)) (Acked (progress_of c receiver h)) ∷
+    refused_if (nat_le (next_after c h) heard) (Ahead (next_after c h)) ∷ [])
+refusal_of c h (Change sid spec) = first_of (
+    refused_if (bad_sid sid) BadSid ∷
+    refused_if (not (is_live sid h)) NoFlow ∷
+    refused_if (not (has_live (is_kind_of spec) sid h)) OtherKind ∷
+    option_map BadFlow (first_fault c spec) ∷
+    refused_if (is_periodic spec && nat_lt c.periodic
+    (other_grants c sid h + grants_of spec)) PeriodicFull ∷ [])
+refusal_of c h (Rest sid) = first_of (
+    refused_if (bad_sid sid) BadSid ∷
+    refused_if (not (is_live sid h)) NoFlow ∷
+    refused_if (not (has_live is_unsolicited sid h)) NotUnsolicited ∷
+    refused_if (has_live (is_short_of_poll c) sid h) TooShort ∷ [])
+refusal_of c h (Wake sid) = first_of (
+    refused_if (bad_sid sid) BadSid ∷
+    refused_if (not (is_live sid h)) NoFlow ∷
+    refused_if (not (has_live is_unsolicited sid h)) NotUnsolicited ∷ [])
 refusal_of c h (Heard receiver upto) = first_of (
     refused_if (nat_le c.receivers receiver) BadReceiver ∷
     refused_if (nat_lt (next_after c h) upto) (Ahead (next_after c h)) ∷

@@ -9,7 +9,7 @@ use Rattle.map_codec.specs.WireMap.{IsWellFormed}
 use Rattle.flow_book.specs.declared.batches.Batches.{Batches}
 use Rattle.flow_book.specs.Flows.{LiveFlow}
 use Rattle.flow_book.specs.Choice.{HasStartedBy}
-use Rattle.periodic.specs.Placement.{spots_in}
+use Rattle.periodic.specs.Placement.{due_in}
 use Rattle.map_build.specs.declared.frame.PlannedFrame.{PlannedFrame}
 use Rattle.map_build.specs.Plan.{Demand, demand_at}
 use Rattle.sched_history.specs.declared.scheduler.state.State.{State}
@@ -20,7 +20,8 @@ use Rattle.sched_calls.specs.declared.reply.TheConstants.{MAX_WHOLE_HISTORY}
 use Rattle.sched_calls.specs.declared.reply.Reply.{Reply}
 use Rattle.sched_calls.specs.declared.reply.Reply.TheVariants.{Built}
 use Rattle.sched_calls.specs.declared.reply.Entry.{Entry}
-use Rattle.sched_history.specs.Life.{turn_by, asked_by, grants_by, batches_by, flows_of, table_of}
+use Rattle.sched_history.specs.Life.{turn_by, added_by, replaced_by, grants_by, batches_by, change_by, rest_by}
+use Rattle.sched_history.specs.Life.{flows_of, table_of}
 use Rattle.sched_history.specs.Time.{skip_by, is_built, progress_by, next_after, progress_of}
 use Rattle.sched_history.specs.Reserves.{reserve_by, header_by, header_after, reserves_of, waiting_in, aged, unmarked}
 use Rattle.sched_history.specs.Refusal.{most_bytes, most_ahead, last_clock, refusal_of}
@@ -32,7 +33,7 @@ use Rattle.sched_calls.specs.Reply.{IsEncodable}
 
 -- what the next frame has to serve, by the fields
 abbrev pub next_demand : State → Demand
-next_demand s = demand_at s.book.flows (spots_in s.config (s.next / s.config.frame) s.table.placed)
+next_demand s = demand_at s.book.flows (due_in s.config (s.next / s.config.frame) s.table.placed)
     (waiting_in s.reserves) s.next
 
 -- The bounds of what a scheduler keeps, after so many calls
@@ -164,7 +165,10 @@ RecordsWithCopy old new stamp call twice copy =
 -- Neither the flows nor the time, the Reserves or the header of a history depend on an entry
 pub record IsQuiet (c : Config) (call : Call) (reply : Reply) : Type 0 where
   pub turns : (sid : ℕ) → turn_by sid call reply ≡ None
-  pub asks : (sid : ℕ) → asked_by c sid call reply ≡ 0
+  pub adds : (sid : ℕ) → added_by c sid call reply ≡ 0
+  pub replaces : (sid : ℕ) → replaced_by c sid call reply ≡ None
+  pub changes : (sid : ℕ) → change_by sid call reply ≡ None
+  pub rests : (sid : ℕ) → rest_by sid call reply ≡ None
   pub batches : (sid asked granted : ℕ) (b : Batches) → batches_by c sid call reply b asked granted ≡ b
   pub grants : (sid : ℕ) → grants_by sid reply ≡ []
   pub skips : skip_by reply ≡ None

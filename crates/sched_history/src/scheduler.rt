@@ -12,6 +12,7 @@ ghost use Rattle.sched_history.specs.Refusal.{refusal_of};
 ghost use Rattle.sched_history.specs.State.{RecordsWithCopy};
 
 mod answering;
+mod changing;
 mod following;
 mod handing_over;
 mod planned;
@@ -77,9 +78,9 @@ impl Scheduler {
 
     /// Answers a call and records it, with its stamp and its reply. A call that is not recorded changes
     /// nothing: one where as many entries are kept as the configuration allows, or the whole history has
-    /// [`MAX_WHOLE_HISTORY`](crate::MAX_WHOLE_HISTORY), before any refusal, and an admission or a build that no refusal
-    /// meets, where memory ran out. Every other call takes no memory. [`Scheduler::record`] does the same without a second
-    /// reply.
+    /// [`MAX_WHOLE_HISTORY`](crate::MAX_WHOLE_HISTORY), before any refusal, and an admission, a change or a build that no
+    /// refusal meets, where memory ran out. Every other call takes no memory. [`Scheduler::record`] does the same without
+    /// a second reply.
     pub fn call(&mut self, stamp: Stamp, call: Call) -> Result<Reply, Unrecorded>
         // A reply is recorded, and may follow the history.
         ensures recorded { IfOk result (λ reply. self.new ≡ record self.old {
@@ -108,7 +109,8 @@ impl Scheduler {
     }
 
     /// Answers a call and records it as [`Scheduler::call`] does, and shows the entry that was recorded. It makes the
-    /// reply once: memory is taken for the MAP of a build or the placement of an admission, and for no copy of it.
+    /// reply once: memory is taken for the MAP of a build or the placement of an admission or a change, and for no copy
+    /// of it.
     pub fn record(&mut self, stamp: Stamp, call: Call) -> Result<&Entry, Unrecorded>
         // An entry is recorded, of this call, with a reply that may follow the history; else nothing changes.
         ensures* recorded { sem 𝓛 (Records self.entry result) }

@@ -4,7 +4,7 @@ use Rattle.hex.specs.Hex.{encode_lower}
 use Rattle.map_codec.specs.WireMap.{spelling}
 use Rattle.sched_calls.specs.declared.frame_map.FrameMap.{FrameMap}
 use Rattle.sched_calls.specs.declared.reply.Reply.TheVariants.{Admitted, Removed, Taken, Noted, Built, Skipped, Flow}
-use Rattle.sched_calls.specs.declared.reply.Reply.TheVariants.{Refused, Reserved}
+use Rattle.sched_calls.specs.declared.reply.Reply.TheVariants.{Refused, Reserved, Changed}
 use Rattle.wire_frame.specs.MapFrame.{frame_of_map}
 use Rattle.sched_calls.specs.Reply.{Answer}
 use Rattle.sched_lines.specs.Line.{line_of}
@@ -13,6 +13,7 @@ use Rattle.sched_lines.specs.Line.{line_of}
 abbrev pub map_in : Answer → Option FrameMap
 map_in (Ok (Built m)) = Some m
 map_in (Ok (Admitted p)) = None
+map_in (Ok (Changed p)) = None
 map_in (Ok Removed) = None
 map_in (Ok Taken) = None
 map_in (Ok Noted) = None

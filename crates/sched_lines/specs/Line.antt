@@ -10,9 +10,11 @@ use Rattle.sched_calls.specs.declared.reply.Refusal.TheVariants.{BadSid, SidLive
 use Rattle.sched_calls.specs.declared.reply.Refusal.TheVariants.{NoPlace, NoFlow, NotAsking, BadReceiver, BadBytes}
 use Rattle.sched_calls.specs.declared.reply.Refusal.TheVariants.{Acked, Ahead, Backwards, BadClock, TooEarly, Late}
 use Rattle.sched_calls.specs.declared.reply.Refusal.TheVariants.{NotLate, BadLength, ReservesFull, BadBackoff}
+use Rattle.sched_calls.specs.declared.reply.Refusal.TheVariants.{OtherKind, NotUnsolicited, TooShort}
+use Rattle.sched_calls.specs.declared.placement.Placement.{Placement}
 use Rattle.sched_calls.specs.declared.reply.Reply.{Reply}
 use Rattle.sched_calls.specs.declared.reply.Reply.TheVariants.{Admitted, Removed, Taken, Noted, Built, Skipped, Flow}
-use Rattle.sched_calls.specs.declared.reply.Reply.TheVariants.{Reserved, Refused}
+use Rattle.sched_calls.specs.declared.reply.Reply.TheVariants.{Reserved, Refused, Changed}
 use Rattle.sched_calls.specs.declared.reply.Unrecorded.TheVariants.{HistoryFull, Memory}
 use Rattle.sched_calls.specs.Reply.{Answer}
 
@@ -60,6 +62,9 @@ refusal_number (NotLate slot) = 17
 refusal_number BadLength = 18
 refusal_number ReservesFull = 19
 refusal_number BadBackoff = 20
+refusal_number OtherKind = 21
+refusal_number NotUnsolicited = 22
+refusal_number TooShort = 23
 
 -- the value of a refusal that has one
 abbrev pub refusal_value : Refusal → Option ℕ
@@ -83,16 +88,25 @@ refusal_value (NotLate slot) = Some slot
 refusal_value BadLength = None
 refusal_value ReservesFull = None
 refusal_value BadBackoff = None
+refusal_value OtherKind = None
+refusal_value NotUnsolicited = None
+refusal_value TooShort = None
 
 -- the text of a value, where there is one
 abbrev pub value_text : Option ℕ → List ℕ
 value_text None = []
 value_text (Some n) = number_text n
 
+-- the text of the place of a flow: the reference, and each start
+abbrev pub place_text : Placement → List ℕ
+place_text p = number_text p.reference ++ numbers_text p.starts
+
 -- the text of a reply
 abbrev pub reply_text : Reply → List ℕ
 reply_text (Admitted None) = codes "admitted"
-reply_text (Admitted (Some p)) = codes "admitted" ++ (number_text p.reference ++ numbers_text p.starts)
+reply_text (Admitted (Some p)) = codes "admitted" ++ place_text p
+reply_text (Changed None) = codes "changed"
+reply_text (Changed (Some p)) = codes "changed" ++ place_text p
 reply_text Removed = codes "removed"
 reply_text Taken = codes "taken"
 reply_text Noted = codes "noted"

@@ -9,9 +9,10 @@ use Rattle.sched_calls.specs.declared.reply.Refusal.TheVariants.{BadSid, SidLive
 use Rattle.sched_calls.specs.declared.reply.Refusal.TheVariants.{NoPlace, NoFlow, NotAsking, BadReceiver, BadBytes}
 use Rattle.sched_calls.specs.declared.reply.Refusal.TheVariants.{Acked, Ahead, Backwards, BadClock, TooEarly, Late}
 use Rattle.sched_calls.specs.declared.reply.Refusal.TheVariants.{NotLate, BadLength, ReservesFull, BadBackoff}
+use Rattle.sched_calls.specs.declared.reply.Refusal.TheVariants.{OtherKind, NotUnsolicited, TooShort}
 use Rattle.sched_calls.specs.declared.reply.Reply.{Reply}
 use Rattle.sched_calls.specs.declared.reply.Reply.TheVariants.{Admitted, Removed, Taken, Noted, Built, Skipped, Flow}
-use Rattle.sched_calls.specs.declared.reply.Reply.TheVariants.{Reserved, Refused}
+use Rattle.sched_calls.specs.declared.reply.Reply.TheVariants.{Reserved, Refused, Changed}
 use Rattle.sched_calls.specs.Reply.{Answer}
 use Rattle.sched_lines.specs.Line.{answer_text}
 
@@ -47,6 +48,9 @@ words_before (NotLate slot) = codes "not late: the next frame starts at "
 words_before BadLength = codes "bad length: it is 0, or more than a frame has behind the request region"
 words_before ReservesFull = codes "no more reserves: there are "
 words_before BadBackoff = codes "bad backoff: an exponent is above 15"
+words_before OtherKind = codes "another kind: a change leaves the kind of a flow as it is"
+words_before NotUnsolicited = codes "only a flow of unsolicited grants rests and wakes"
+words_before TooShort = codes "too short: its grant has fewer minislots than a poll"
 
 -- the number that it tells: how many Reserves can wait, or a minislot
 abbrev pub number_told : Refusal → Option ℕ
@@ -70,6 +74,9 @@ number_told (NotLate slot) = Some slot
 number_told BadLength = None
 number_told ReservesFull = Some MAX_RESERVES
 number_told BadBackoff = None
+number_told OtherKind = None
+number_told NotUnsolicited = None
+number_told TooShort = None
 
 -- the rest of its meaning
 abbrev pub words_behind : Refusal → List ℕ
@@ -93,6 +100,9 @@ words_behind (NotLate slot) = codes ", and the clock with its lead is not past i
 words_behind BadLength = []
 words_behind ReservesFull = codes " already"
 words_behind BadBackoff = []
+words_behind OtherKind = []
+words_behind NotUnsolicited = []
+words_behind TooShort = []
 
 -- a number in decimal, where there is one
 abbrev pub digits_of : Option ℕ → List ℕ
@@ -106,6 +116,7 @@ meaning_of refusal = words_before refusal ++ (digits_of (number_told refusal) ++
 -- the refusal that a reply is, where it is one
 abbrev pub refusal_as : Reply → Option Refusal
 refusal_as (Admitted placement) = None
+refusal_as (Changed placement) = None
 refusal_as Removed = None
 refusal_as Taken = None
 refusal_as Noted = None

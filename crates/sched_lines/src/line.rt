@@ -5,7 +5,7 @@ ghost use Rattle.std.specs.Prelude.{Some};
 ghost use Rattle.map_codec.specs.WireMap.{IsWellFormed, spelling};
 ghost use Rattle.hex.specs.Hex.{encode_lower};
 ghost use Rattle.sched_lines.specs.Line.{number_text, numbers_text, fault_number, refusal_number, refusal_value};
-ghost use Rattle.sched_lines.specs.Line.{reply_text, line_of};
+ghost use Rattle.sched_lines.specs.Line.{place_text, reply_text, line_of};
 ghost use Rattle.sched_calls.specs.Reply.{HasLine};
 ghost use Rattle.sched_calls.specs.Reply.{IsEncodable};
 ghost use Rattle.text_stream.specs.Writing.{Writes};
@@ -89,6 +89,9 @@ pub fn refusal_number(refusal: Refusal) -> u64
         Refusal::BadLength => 18,
         Refusal::ReservesFull => 19,
         Refusal::BadBackoff => 20,
+        Refusal::OtherKind => 21,
+        Refusal::NotUnsolicited => 22,
+        Refusal::TooShort => 23,
     }
 }
 
@@ -119,11 +122,12 @@ fn put_refusal<W: Sink>(writer: &mut W, refusal: Refusal) -> Result<(), TextFaul
     }
 }
 
-fn put_placement<W: Sink>(writer: &mut W, placement: &Placement) -> Result<(), TextFault>
+// A word, and the place of a flow behind it.
+fn put_placed<W: Sink>(writer: &mut W, word: &[u8], placement: &Placement) -> Result<(), TextFault>
     ensures { Writes W.contents W.has_failed writer.old writer.new
-        (reply_text (Reply.Admitted (Some placement.now))) result }
+        (word.now ++ place_text placement.now) result }
 {
-    put_words(writer, b"admitted", &[placement.reference])?;
+    put_words(writer, word, &[placement.reference])?;
     put_numbers(writer, placement.starts.as_slice())
 }
 
@@ -156,7 +160,9 @@ pub(crate) fn put_reply<W: Sink>(writer: &mut W, reply: &Reply) -> Result<(), Te
 {
     match reply {
         Reply::Admitted(None) => put(writer, b"admitted"),
-        Reply::Admitted(Some(placement)) => put_placement(writer, placement),
+        Reply::Admitted(Some(placement)) => put_placed(writer, b"admitted", placement),
+        Reply::Changed(None) => put(writer, b"changed"),
+        Reply::Changed(Some(placement)) => put_placed(writer, b"changed", placement),
         Reply::Removed => put(writer, b"removed"),
         Reply::Taken => put(writer, b"taken"),
         Reply::Noted => put(writer, b"noted"),

@@ -54,6 +54,9 @@ fn words_before(refusal: Refusal) -> &'static [u8]
             b"bad length: it is 0, or more than a frame has behind the request region",
         Refusal::ReservesFull => b"no more reserves: there are ",
         Refusal::BadBackoff => b"bad backoff: an exponent is above 15",
+        Refusal::OtherKind => b"another kind: a change leaves the kind of a flow as it is",
+        Refusal::NotUnsolicited => b"only a flow of unsolicited grants rests and wakes",
+        Refusal::TooShort => b"too short: its grant has fewer minislots than a poll",
     }
 }
 

@@ -16,7 +16,7 @@ use Rattle.sched_history.specs.Life.{flows_of}
 use Rattle.sched_history.specs.Time.{next_after}
 use Rattle.sched_history.specs.Refusal.{last_clock, most_ahead}
 use Rattle.sched_history.specs.History.{demand_after, IsLegal, IsNextMap}
-use Rattle.sched_history.proofs.facts.Orderly.{flows_of-in_range, spots_in-in_range}
+use Rattle.sched_history.proofs.facts.Orderly.{flows_of-in_range, due_in-in_range}
 use Rattle.sched_history.proofs.reserves.GoodReserves.{HaveStationSids-legal}
 use Rattle.sched_history.proofs.steps.LegalBounds.{next_after-most}
 use Rattle.sched_history.proofs.time.NextFrames.{next_start}
@@ -42,7 +42,7 @@ module _ (c : Config) (lawful : IsLawful c) (h : List Entry) where
       subst (λ (n : FrameMap). AreOfFrame n.wire.elements) (sym next.2)
       (of_frame (elements_of c (flows_of c h) (next_after c h) next.0)
       (elements_of-encodable c (demand_after c h) next.0 (omega (arith, frame)) (flows_of-in_range c h)
-      (spots_in-in_range c (next_after c h / c.frame) h) (HaveStationSids-legal c h legal) next.1.each next.1.whole))
+      (due_in-in_range c (next_after c h / c.frame) h) (HaveStationSids-legal c h legal) next.1.each next.1.whole))
 
   -- and starts in reach of the clock
   pub next_start-most : (m : FrameMap) → IsLegal c h → IsNextMap c h m → m.start ≤ last_clock + most_ahead

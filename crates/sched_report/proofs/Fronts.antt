@@ -1,8 +1,8 @@
 -- The data grants of the first elements of a MAP.
-use Rattle.std.proofs.Common.{◌≡◌, ℕ, ◌+◌, ◌<◌, ◌≤◌, List, [], ◌∷◌, ◌++◌, length, take, drop, get_or, filter_map}
+use Rattle.std.proofs.Common.{◌≡◌, ℕ, ◌+◌, ◌<◌, ◌≤◌, List, [], ◌∷◌, ◌++◌, length, map, take, drop, get_or, filter_map}
 use Rattle.std.proofs.Common.{sym, ap, ◌∙◌, append_assoc, arith}
 use Rattle.std.specs.List.{zip, cons_option}
-use Rattle.std.proofs.lemmas.List.{take_more, take-append-drop}
+use Rattle.std.proofs.lemmas.List.{take_more, take-append-drop, length-map}
 use Rattle.std.proofs.lemmas.List.Elements.{filter_map-append}
 use Rattle.std.proofs.lemmas.List.Sums.{sum_by-append}
 use Rattle.std.proofs.lemmas.Slice.Zip.{length-zip, get_or-zip}
@@ -11,9 +11,9 @@ use Rattle.flow_book.specs.declared.flow.Grant.{Grant}
 use Rattle.flow_book.specs.Flows.{bytes_of}
 use Rattle.minislots.specs.declared.config.Config.{Config}
 use Rattle.sched_history.specs.Life.{grant_by}
-use Rattle.sched_report.specs.declared.service.Request.{Request}
 use Rattle.sched_report.specs.declared.service.Service.{Service}
-use Rattle.sched_report.specs.Served.{IsServiceOf}
+use Rattle.sched_report.specs.Delays.{Claim}
+use Rattle.sched_report.specs.Served.{IsServiceOf, with_grants}
 use Rattle.sched_report.specs.Told.{MayGrantAll}
 
 module _ (sid start : ℕ) (es : List Element) (bs : List ℕ) where
@@ -58,15 +58,17 @@ module _ (c : Config) (s now : Service) (sid start : ℕ) (es : List Element) (b
 
   -- the next element may be counted, where all may be
   pub MayGrantAll-next : MayGrantAll c s (filter_map (grant_by sid start) (zip es bs))
-      → ((requests : List Request) (grants : List Grant) → IsServiceOf c s requests grants
-      → IsServiceOf c now requests (grants ++ first_grants sid start es bs i))
+      → ((claims : List Claim) (bytes : ℕ) (grants : List Grant) → IsServiceOf c s claims bytes grants
+      → IsServiceOf c now (map (with_grants (first_grants sid start es bs i)) claims) bytes
+      (grants ++ first_grants sid start es bs i))
       → MayGrantAll c now (cons_option (grant_by sid start (get_or es i d, get_or bs i n)) [])
   MayGrantAll-next may so_far = record {
-    requests = may.requests;
+    claims = map (with_grants (first_grants sid start es bs i)) may.claims;
+    bytes = may.bytes;
     grants = may.grants ++ first_grants sid start es bs i;
-    is = so_far may.requests may.grants may.is;
+    is = so_far may.claims may.bytes may.grants may.is;
     lawful = may.lawful;
-    few = may.few;
+    few = omega (arith, may.few, length-map may.claims (with_grants (first_grants sid start es bs i)));
     fits = may.fits;
     within = omega (
       arith,

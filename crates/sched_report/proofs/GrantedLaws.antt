@@ -1,19 +1,17 @@
 -- What a MAP adds to what is told of lives: one thing after the other.
-use Rattle.std.proofs.Common.{◌≡◌, ℕ, ◌+◌, ◌<◌, ◌≤◌, ◌^◌, ◌&&◌, Bool, true, false, List, [], ◌∷◌, ◌++◌}
-use Rattle.std.proofs.Common.{length, get_or, set}
+use Rattle.std.proofs.Common.{◌≡◌, ℕ, ◌+◌, ◌*◌, ◌<◌, ◌≤◌, ◌^◌, ◌&&◌, Bool, true, false, List, [], ◌++◌}
+use Rattle.std.proofs.Common.{length, map, get_or, set}
 use Rattle.std.proofs.Common.{Option, None, Some, refl, sym, ap, ◌∙◌, subst, append_assoc, inl, inr}
-use Rattle.std.proofs.Common.{if◌then◌else◌, cond, arith}
-use Rattle.std.specs.Prelude.{count_by, is_some}
+use Rattle.std.proofs.Common.{if◌then◌else◌, arith}
+use Rattle.std.specs.Prelude.{sum_by, is_some}
 use Rattle.std.specs.List.{zip, cons_option, filter_map}
 use Rattle.std.proofs.lemmas.Bool.{cases_Bool, cases_eq, ne_eqb}
 use Rattle.std.proofs.lemmas.List.{append-nil, get_or_default, get_or-set_same, get_or-set_other}
-use Rattle.std.proofs.lemmas.List.FromFn.{length-map-range_with_len}
-use Rattle.std.proofs.lemmas.List.Sums.{sum_by-cons, sum_by_push, count_by-le-length}
+use Rattle.std.proofs.lemmas.List.Sums.{sum_by_push}
 use Rattle.minislots.specs.declared.config.Config.{Config}
 use Rattle.map_codec.specs.declared.element.Element.{Element}
 use Rattle.map_drawing.specs.declared.allocation.Allocation.{Allocation}
-use Rattle.map_drawing.specs.Allocation.{front_length, allocation_at, allocations_of}
-use Rattle.map_drawing.proofs.Fronts.{front_length-≤}
+use Rattle.map_drawing.specs.Allocation.{allocation_at}
 use Rattle.flow_book.specs.declared.flow.Grant.{Grant}
 use Rattle.sched_calls.specs.declared.spec.FlowSpec.{FlowSpec}
 use Rattle.sched_calls.specs.declared.spec.FlowSpec.TheVariants as flows
@@ -23,118 +21,138 @@ use Rattle.sched_calls.specs.declared.call.Call.TheVariants as calls
 use Rattle.sched_calls.specs.declared.reply.Reply.{Reply}
 use Rattle.sched_calls.specs.declared.reply.Reply.TheVariants as replies
 use Rattle.sched_calls.specs.declared.reply.Entry.{Entry}
-use Rattle.sched_history.specs.Life.{turn_by, grant_by, grants_of_map, grants_since}
+use Rattle.sched_history.specs.Life.{turn_by, asked_in, grant_by, grants_of_map, grants_since}
 use Rattle.sched_history.specs.Time.{next_after}
 use Rattle.sched_report.specs.declared.life.LifeTally.{LifeTally}
-use Rattle.sched_report.specs.Granted.{HasMore, HaveMore, MayGrantEach, is_unsolicited_to, unsolicited_at}
+use Rattle.sched_report.specs.Delays.{Claim}
+use Rattle.sched_report.specs.Granted.{HasMore, HaveMore, MayGrantEach}
 use Rattle.sched_report.specs.Live.{AreLive}
-use Rattle.sched_report.specs.Lives.{PastLife, is_turn, request_by, requests_in, with_entry}
-use Rattle.sched_report.specs.Said.{unsolicited_of_map}
-use Rattle.sched_report.specs.Served.{IsServiceOf}
+use Rattle.sched_report.specs.Lives.{PastLife, spec_of, is_turn, with_entry}
+use Rattle.sched_report.specs.Requests.{claims_in}
+use Rattle.sched_report.specs.Said.{unsolicited_at, unsolicited_of_map}
+use Rattle.sched_report.specs.Served.{IsServiceOf, with_grants}
 use Rattle.sched_report.specs.Told.{IsLifeOf, MayNote, MayGrantAll}
 use Rattle.sched_report.specs.Uses.{use_of, is_unsolicited}
 use Rattle.sched_report.proofs.Fronts.{first_grants, first_grants-more, MayGrantAll-next}
 use Rattle.sched_report.proofs.LifeNotes.{not_ended, may_grant_map, goes_on-granted}
 use Rattle.sched_report.proofs.LivesGoing.{with_entry-ended, AreLive-still}
 use Rattle.sched_report.proofs.Naming.{no_grant, other_sid}
+use Rattle.sched_report.proofs.Reaching.{same_claims, claims_then}
 use Rattle.sched_report.proofs.SlotLists.{first_allocations, first_allocations-more}
 
 module _ (c : Config) where
   -- a life to which nothing is added where it goes on stays as it is
-  pub HasMore-none : (gs : List Grant) (n : ℕ) (t : LifeTally) → (t.to ≡ None → gs ≡ []) → (t.to ≡ None → n ≡ 0)
-      → HasMore c gs n t t
-  HasMore-none gs n t none zero = record {
+  pub HasMore-none : (gs : List Grant) (most n : ℕ) (t : LifeTally) → (t.to ≡ None → gs ≡ [])
+      → (t.to ≡ None → n ≡ 0) → HasMore c gs most n t t
+  HasMore-none gs most n t none zero = record {
     sid = refl;
     spec = refl;
     from = refl;
     to = refl;
     ended = λ never. refl;
-    service = λ alive requests before is.
-        subst (λ (more : List Grant). IsServiceOf c t.service requests (before ++ more)) (sym (none alive))
-        (subst (IsServiceOf c t.service requests) (sym (append-nil before)) is);
+    service = λ alive claims bytes before is.
+        subst (λ (more : List Grant). IsServiceOf c t.service (map (with_grants more) claims) bytes (before ++ more))
+        (sym (none alive))
+        (subst (IsServiceOf c t.service (map (with_grants []) claims) bytes) (sym (append-nil before))
+        (subst (λ (ms : List Claim). IsServiceOf c t.service ms bytes before) (sym (same_claims claims)) is));
     counted = λ alive. omega (arith, zero alive);
+    few = omega arith;
   }
 
   -- one thing after the other
-  pub HasMore-then : (gs hs : List Grant) (m n : ℕ) (a b d : LifeTally) → HasMore c gs m a b → HasMore c hs n b d
-      → HasMore c (gs ++ hs) (m + n) a d
-  HasMore-then gs hs m n a b d first second = record {
+  pub HasMore-then : (gs hs : List Grant) (k l m n : ℕ) (a b d : LifeTally) → HasMore c gs k m a b
+      → HasMore c hs l n b d → HasMore c (gs ++ hs) (k + l) (m + n) a d
+  HasMore-then gs hs k l m n a b d first second = record {
     sid = second.sid ∙ first.sid;
     spec = second.spec ∙ first.spec;
     from = second.from ∙ first.from;
     to = second.to ∙ first.to;
     ended = λ never. second.ended (λ alive. never (sym first.to ∙ alive)) ∙ first.ended never;
-    service = λ alive requests before is.
-        subst (IsServiceOf c d.service requests) (append_assoc before gs hs)
-        (second.service (first.to ∙ alive) requests (before ++ gs) (first.service alive requests before is));
+    service = λ alive claims bytes before is.
+        subst (IsServiceOf c d.service (map (with_grants (gs ++ hs)) claims) bytes) (append_assoc before gs hs)
+        (subst (λ (ms : List Claim). IsServiceOf c d.service ms bytes ((before ++ gs) ++ hs))
+        (claims_then gs hs claims)
+        (second.service (first.to ∙ alive) (map (with_grants gs) claims) bytes (before ++ gs)
+        (first.service alive claims bytes before is)));
     counted = λ alive. omega (arith, second.counted (first.to ∙ alive), first.counted alive);
+    few = omega (arith, first.few, second.few);
   }
 
   -- the same in other words
-  pub HasMore-is : (gs hs : List Grant) (m n : ℕ) (a b : LifeTally) → gs ≡ hs → m ≡ n → HasMore c gs m a b
-      → HasMore c hs n a b
-  HasMore-is gs hs m n a b same count more =
-      subst (λ gs. HasMore c gs n a b) same (subst (λ n. HasMore c gs n a b) count more)
+  pub HasMore-is : (gs hs : List Grant) (k l m n : ℕ) (a b : LifeTally) → gs ≡ hs → k ≤ l → m ≡ n
+      → HasMore c gs k m a b → HasMore c hs l n a b
+  HasMore-is gs hs k l m n a b same within count more =
+      let wider : HasMore c gs l m a b = record {
+        sid = more.sid;
+        spec = more.spec;
+        from = more.from;
+        to = more.to;
+        ended = more.ended;
+        service = more.service;
+        counted = more.counted;
+        few = omega (arith, more.few, within);
+      } in
+      subst (λ gs. HasMore c gs l n a b) same (subst (λ n. HasMore c gs l n a b) count wider)
 
-module _ (c : Config) (gs : ℕ → List Grant) (m : FlowSpec → ℕ → ℕ) where
+module _ (c : Config) (gs : ℕ → List Grant) (most : ℕ) (m : FlowSpec → ℕ → ℕ) where
   -- lives to which nothing is added where they go on stay as they are
   pub HaveMore-none : (ts : List LifeTally)
       → ((k : ℕ) (t : LifeTally) → k < length ts → (get_or ts k t).to ≡ None → gs (get_or ts k t).sid ≡ [])
       → ((k : ℕ) (t : LifeTally) → k < length ts → (get_or ts k t).to ≡ None
-      → m (get_or ts k t).spec (get_or ts k t).sid ≡ 0) → HaveMore c gs m ts ts
+      → m (get_or ts k t).spec (get_or ts k t).sid ≡ 0) → HaveMore c gs most m ts ts
   HaveMore-none ts none zero = λ k t below.
-      HasMore-none c (gs (get_or ts k t).sid) (m (get_or ts k t).spec (get_or ts k t).sid) (get_or ts k t)
+      HasMore-none c (gs (get_or ts k t).sid) most (m (get_or ts k t).spec (get_or ts k t).sid) (get_or ts k t)
       (none k t below) (zero k t below)
 
   -- what is added to one life, where nothing is to the others
   pub HaveMore-set : (ts : List LifeTally) (p : ℕ) (old new : LifeTally) → p < length ts
-      → HasMore c (gs (get_or ts p old).sid) (m (get_or ts p old).spec (get_or ts p old).sid) (get_or ts p old) new
+      → HasMore c (gs (get_or ts p old).sid) most (m (get_or ts p old).spec (get_or ts p old).sid) (get_or ts p old) new
       → ((k : ℕ) (t : LifeTally) → k < length ts → (k ≡ p → ⊥) → (get_or ts k t).to ≡ None
       → gs (get_or ts k t).sid ≡ [])
       → ((k : ℕ) (t : LifeTally) → k < length ts → (k ≡ p → ⊥) → (get_or ts k t).to ≡ None
-      → m (get_or ts k t).spec (get_or ts k t).sid ≡ 0) → HaveMore c gs m ts (set ts p new)
+      → m (get_or ts k t).spec (get_or ts k t).sid ≡ 0) → HaveMore c gs most m ts (set ts p new)
   HaveMore-set ts p old new inside more none zero = λ k t below. elim (cases_eq k p) [
     | inl at ↦
         let same : get_or ts p old ≡ get_or ts k t =
         get_or_default ts p old t inside ∙ ap (λ k. get_or ts k t) (sym at) in
         let here : new ≡ get_or (set ts p new) k t =
         sym (ap (λ k. get_or (set ts p new) k t) at ∙ get_or-set_same ts p new t inside) in
-        subst (λ (u : LifeTally). HasMore c (gs u.sid) (m u.spec u.sid) u (get_or (set ts p new) k t)) same
-        (subst (λ (u : LifeTally). HasMore c (gs (get_or ts p old).sid)
+        subst (λ (u : LifeTally). HasMore c (gs u.sid) most (m u.spec u.sid) u (get_or (set ts p new) k t)) same
+        (subst (λ (u : LifeTally). HasMore c (gs (get_or ts p old).sid) most
         (m (get_or ts p old).spec (get_or ts p old).sid) (get_or ts p old) u) here more)
     | inr apart ↦
-        subst (λ (u : LifeTally). HasMore c (gs (get_or ts k t).sid) (m (get_or ts k t).spec (get_or ts k t).sid)
+        subst (λ (u : LifeTally). HasMore c (gs (get_or ts k t).sid) most (m (get_or ts k t).spec (get_or ts k t).sid)
         (get_or ts k t) u) (sym (get_or-set_other ts p k new t apart))
-        (HasMore-none c (gs (get_or ts k t).sid) (m (get_or ts k t).spec (get_or ts k t).sid) (get_or ts k t)
+        (HasMore-none c (gs (get_or ts k t).sid) most (m (get_or ts k t).spec (get_or ts k t).sid) (get_or ts k t)
         (none k t below apart) (zero k t below apart))
   ]
 
   -- the same in other words
-  pub HaveMore-is : (hs : ℕ → List Grant) (n : FlowSpec → ℕ → ℕ) (a b : List LifeTally)
-      → ((sid : ℕ) → gs sid ≡ hs sid) → ((spec : FlowSpec) (sid : ℕ) → m spec sid ≡ n spec sid)
-      → HaveMore c gs m a b → HaveMore c hs n a b
-  HaveMore-is hs n a b same count more = λ k t below.
+  pub HaveMore-is : (hs : ℕ → List Grant) (wider : ℕ) (n : FlowSpec → ℕ → ℕ) (a b : List LifeTally)
+      → ((sid : ℕ) → gs sid ≡ hs sid) → most ≤ wider → ((spec : FlowSpec) (sid : ℕ) → m spec sid ≡ n spec sid)
+      → HaveMore c gs most m a b → HaveMore c hs wider n a b
+  HaveMore-is hs wider n a b same within count more = λ k t below.
       let u : LifeTally = get_or a k t in
-      HasMore-is c (gs u.sid) (hs u.sid) (m u.spec u.sid) (n u.spec u.sid) u (get_or b k t) (same u.sid)
-      (count u.spec u.sid) (more k t below)
+      HasMore-is c (gs u.sid) (hs u.sid) most wider (m u.spec u.sid) (n u.spec u.sid) u (get_or b k t) (same u.sid)
+      within (count u.spec u.sid) (more k t below)
 
-  module _ (a b : List LifeTally) (long : length b ≡ length a) (first : HaveMore c gs m a b) where
+  module _ (a b : List LifeTally) (long : length b ≡ length a) (first : HaveMore c gs most m a b) where
     -- one thing after the other
-    pub HaveMore-then : (hs ks : ℕ → List Grant) (n o : FlowSpec → ℕ → ℕ) (d : List LifeTally) → HaveMore c hs n b d
-        → ((sid : ℕ) → gs sid ++ hs sid ≡ ks sid) → ((spec : FlowSpec) (sid : ℕ) → m spec sid + n spec sid ≡ o spec sid)
-        → HaveMore c ks o a d
-    HaveMore-then hs ks n o d second same count = λ k t below.
+    pub HaveMore-then : (hs ks : ℕ → List Grant) (later all : ℕ) (n o : FlowSpec → ℕ → ℕ) (d : List LifeTally)
+        → HaveMore c hs later n b d → ((sid : ℕ) → gs sid ++ hs sid ≡ ks sid) → most + later ≤ all
+        → ((spec : FlowSpec) (sid : ℕ) → m spec sid + n spec sid ≡ o spec sid) → HaveMore c ks all o a d
+    HaveMore-then hs ks later all n o d second same within count = λ k t below.
         let x : LifeTally = get_or a k t in
         let y : LifeTally = get_or b k t in
         let z : LifeTally = get_or d k t in
         let more = first k t below in
-        let next : HasMore c (hs x.sid) (n x.spec x.sid) y z =
-        subst (λ (sid : ℕ). HasMore c (hs sid) (n x.spec sid) y z) more.sid
-        (subst (λ (spec : FlowSpec). HasMore c (hs y.sid) (n spec y.sid) y z) more.spec
+        let next : HasMore c (hs x.sid) later (n x.spec x.sid) y z =
+        subst (λ (sid : ℕ). HasMore c (hs sid) later (n x.spec sid) y z) more.sid
+        (subst (λ (spec : FlowSpec). HasMore c (hs y.sid) later (n spec y.sid) y z) more.spec
         (second k t (omega (arith, below, long)))) in
-        HasMore-is c (gs x.sid ++ hs x.sid) (ks x.sid) (m x.spec x.sid + n x.spec x.sid) (o x.spec x.sid) x z
-        (same x.sid) (count x.spec x.sid)
-        (HasMore-then c (gs x.sid) (hs x.sid) (m x.spec x.sid) (n x.spec x.sid) x y z more next)
+        HasMore-is c (gs x.sid ++ hs x.sid) (ks x.sid) (most + later) all (m x.spec x.sid + n x.spec x.sid)
+        (o x.spec x.sid) x z (same x.sid) within (count x.spec x.sid)
+        (HasMore-then c (gs x.sid) (hs x.sid) most later (m x.spec x.sid) (n x.spec x.sid) x y z more next)
 
     -- the lives that go on are still where they were
     pub HaveMore-live : (places : List ℕ) → AreLive places a → AreLive places b
@@ -145,7 +163,7 @@ module _ (c : Config) (gs : ℕ → List Grant) (m : FlowSpec → ℕ → ℕ) w
 -- the next element may be counted, where all may be
 pub MayGrantEach-next : (c : Config) (start : ℕ) (es : List Element) (bs : List ℕ) (i : ℕ) (d : Element) (n : ℕ)
     → i < length es → i < length bs → (a b : List LifeTally) → length b ≡ length a
-    → HaveMore c (λ sid. first_grants sid start es bs i) (λ spec sid. 0) a b
+    → HaveMore c (λ sid. first_grants sid start es bs i) 0 (λ spec sid. 0) a b
     → MayGrantEach c (λ sid. filter_map (grant_by sid start) (zip es bs)) a
     → MayGrantEach c (λ sid. cons_option (grant_by sid start (get_or es i d, get_or bs i n)) []) b
 MayGrantEach-next c start es bs i d n in_elements in_counts a b long more may = λ k t below alive.
@@ -162,20 +180,22 @@ MayGrantEach-next c start es bs i d n in_elements in_counts a b long more may = 
 -- and with it the lives have what one element more grants
 pub HaveMore-next : (c : Config) (start : ℕ) (es : List Element) (bs : List ℕ) (i : ℕ) (d : Element) (n : ℕ)
     → i < length es → i < length bs → (x y z : List LifeTally) → length y ≡ length x
-    → HaveMore c (λ sid. first_grants sid start es bs i) (λ spec sid. 0) x y
-    → HaveMore c (λ sid. cons_option (grant_by sid start (get_or es i d, get_or bs i n)) []) (λ spec sid. 0) y z
-    → HaveMore c (λ sid. first_grants sid start es bs (i + 1)) (λ spec sid. 0) x z
+    → HaveMore c (λ sid. first_grants sid start es bs i) 0 (λ spec sid. 0) x y
+    → HaveMore c (λ sid. cons_option (grant_by sid start (get_or es i d, get_or bs i n)) []) 0 (λ spec sid. 0) y z
+    → HaveMore c (λ sid. first_grants sid start es bs (i + 1)) 0 (λ spec sid. 0) x z
 HaveMore-next c start es bs i d n in_elements in_counts x y z long first second =
-    HaveMore-then c (λ (sid : ℕ). first_grants sid start es bs i) (λ (spec : FlowSpec) (sid : ℕ). 0) x y long first
+    HaveMore-then c (λ (sid : ℕ). first_grants sid start es bs i) 0 (λ (spec : FlowSpec) (sid : ℕ). 0) x y long first
     (λ (sid : ℕ). cons_option (grant_by sid start (get_or es i d, get_or bs i n)) [])
-    (λ (sid : ℕ). first_grants sid start es bs (i + 1)) (λ (spec : FlowSpec) (sid : ℕ). 0)
+    (λ (sid : ℕ). first_grants sid start es bs (i + 1)) 0 0 (λ (spec : FlowSpec) (sid : ℕ). 0)
     (λ (spec : FlowSpec) (sid : ℕ). 0) z second
-    (λ sid. sym (first_grants-more sid start es bs i d n in_elements in_counts)) (λ spec sid. omega arith)
+    (λ sid. sym (first_grants-more sid start es bs i d n in_elements in_counts)) (omega arith)
+    (λ spec sid. omega arith)
 
 -- an allocation of another SID is no unsolicited grant
 no_unsolicited : (spec : FlowSpec) (sid : ℕ) (a : Allocation) → (a.sid ≡ sid → ⊥) → unsolicited_at spec sid a ≡ 0
 no_unsolicited (flows.Unsolicited size interval jitter grants) sid a apart =
-    ap {B = ℕ} (λ (t : Bool). if t && is_unsolicited (use_of a.sid a.iuc true) then 1 else 0) (ne_eqb a.sid sid apart)
+    ap {B = ℕ} (λ (t : Bool). if t && is_unsolicited (use_of a.sid a.iuc true) then size else 0)
+    (ne_eqb a.sid sid apart)
 no_unsolicited (flows.Polled interval jitter rate burst) sid a apart = refl
 no_unsolicited (flows.BestEffort priority rate burst) sid a apart = refl
 
@@ -196,65 +216,27 @@ module _ (places : List ℕ) (ts : List LifeTally) (are : AreLive places ts) (k 
       no_unsolicited (get_or ts k t).spec (get_or ts k t).sid a
       (λ same. other_sid places ts are k t below a.sid apart alive same)
 
--- none of some is counted
-count_none : (p : Allocation → Bool) (some : List Allocation) → ((a : Allocation) → p a ≡ false) → count_by p some ≡ 0
-count_none p [] never = refl
-count_none p (a ∷ some) never =
-    omega (
-      arith,
-      sum_by-cons (λ (a : Allocation). cond (p a) 1 0) a some,
-      ap {B = ℕ} (λ (b : Bool). cond b 1 0) (never a),
-      count_none p some never,
-    )
-
--- the unsolicited grants of a MAP to a flow are its allocations that are ones
-pub unsolicited-counted : (spec : FlowSpec) (sid : ℕ) (m : FrameMap)
-    → count_by (is_unsolicited_to spec sid) (allocations_of m.wire.elements) ≡ unsolicited_of_map spec sid m
-unsolicited-counted (flows.Unsolicited size interval jitter grants) sid m = refl
-unsolicited-counted (flows.Polled interval jitter rate burst) sid m =
-    count_none _ (allocations_of m.wire.elements) (λ a. refl)
-unsolicited-counted (flows.BestEffort priority rate burst) sid m =
-    count_none _ (allocations_of m.wire.elements) (λ a. refl)
-
--- there are no more of them than allocations
-pub unsolicited-first : (spec : FlowSpec) (sid : ℕ) (es : List Element) (n : ℕ)
-    → count_by (is_unsolicited_to spec sid) (first_allocations es n) ≤ n
-unsolicited-first spec sid es n =
-    omega (
-      arith,
-      count_by-le-length (is_unsolicited_to spec sid) (first_allocations es n),
-      length-map-range_with_len (allocation_at es) 0 n,
-    )
-
--- and those of one allocation more
+-- the bytes of the unsolicited grants among some allocations and one more
 pub unsolicited-more : (spec : FlowSpec) (sid : ℕ) (es : List Element) (n : ℕ)
-    → count_by (is_unsolicited_to spec sid) (first_allocations es n) + unsolicited_at spec sid (allocation_at es n)
-    ≡ count_by (is_unsolicited_to spec sid) (first_allocations es (n + 1))
+    → sum_by (unsolicited_at spec sid) (first_allocations es n) + unsolicited_at spec sid (allocation_at es n)
+    ≡ sum_by (unsolicited_at spec sid) (first_allocations es (n + 1))
 unsolicited-more spec sid es n =
     omega (
       arith,
-      ap (count_by (is_unsolicited_to spec sid)) (first_allocations-more es n),
-      sum_by_push (λ (a : Allocation). cond (is_unsolicited_to spec sid a) 1 0) (first_allocations es n)
-          (allocation_at es n),
+      ap (sum_by (unsolicited_at spec sid)) (first_allocations-more es n),
+      sum_by_push (unsolicited_at spec sid) (first_allocations es n) (allocation_at es n),
     )
 
--- an entry with a MAP asks nothing, and no life begins or ends with it
+-- no life begins or ends with an entry that has a MAP
 built_turn : (sid : ℕ) (call : Call) (m : FrameMap) → is_some (turn_by sid call (replies.Built m)) ≡ false
 built_turn sid (calls.Admit other spec) m = refl
 built_turn sid (calls.Remove other) m = refl
 built_turn sid call m = refl
 
-built_request : (sid : ℕ) (call : Call) (m : FrameMap) → request_by sid call (replies.Built m) ≡ None
-built_request sid (calls.Ask receiver other amount heard) m = refl
-built_request sid call m = refl
-
 module _ (c : Config) (old : LifeTally) (life : PastLife) (slot : ℕ) (e : Entry) (m : FrameMap)
     (built : e.reply ≡ replies.Built m) (is : IsLifeOf c old life) (may : MayNote c life slot e) where
   stays : is_turn life.sid e ≡ false
   stays = ap (λ (r : Reply). is_some (turn_by life.sid e.call r)) built ∙ built_turn life.sid e.call m
-
-  silent : request_by life.sid e.call e.reply ≡ None
-  silent = ap (λ (r : Reply). request_by life.sid e.call r) built ∙ built_request life.sid e.call m
 
   -- the data grants of a MAP may be counted in a life that goes on
   pub may_grant-map : old.to ≡ None → MayGrantAll c old.service (grants_of_map old.sid m)
@@ -262,15 +244,15 @@ module _ (c : Config) (old : LifeTally) (life : PastLife) (slot : ℕ) (e : Entr
       let alive : life.ended ≡ false =
       not_ended life.ended (next_after c (life.upto ++ life.since)) old.to is.to (ap is_some none) in
       subst (λ (sid : ℕ). MayGrantAll c old.service (grants_of_map sid m)) (sym is.sid)
-      (may_grant_map c old life slot e is may alive stays m built silent)
+      (may_grant_map c old life slot e is may alive stays m built)
 
   -- and unsolicited ones
-  pub may_count-map : old.unsolicited + length m.wire.elements ≤ 2 ^ 100
+  pub may_count-map : old.unsolicited + 2 ^ 32 * length m.wire.elements ≤ 2 ^ 100
   may_count-map = omega (arith, is.bounded, may.few, (may.orderly m built).within)
 
   -- the life goes on with the grants of a MAP
   pub goes_on-map : (new : LifeTally)
-      → HasMore c (grants_of_map old.sid m) (unsolicited_of_map old.spec old.sid m) old new
+      → HasMore c (grants_of_map old.sid m) (length m.wire.elements) (unsolicited_of_map old.spec old.sid m) old new
       → IsLifeOf c new (with_entry e life)
   goes_on-map new more =
       elim (cases_Bool life.ended) [
@@ -284,20 +266,14 @@ module _ (c : Config) (old : LifeTally) (life : PastLife) (slot : ℕ) (e : Entr
         | inr alive ↦
             let none : old.to ≡ None =
             is.to ∙ ap (λ b. if b then Some (next_after c (life.upto ++ life.since)) else None) alive in
-            let same : unsolicited_of_map old.spec old.sid m ≡ unsolicited_of_map life.spec life.sid m =
+            let same : unsolicited_of_map old.spec old.sid m ≡ unsolicited_of_map (spec_of life) life.sid m =
             ap (λ (spec : FlowSpec). unsolicited_of_map spec old.sid m) is.spec
-            ∙ ap (λ (sid : ℕ). unsolicited_of_map life.spec sid m) is.sid in
+            ∙ ap (λ (sid : ℕ). unsolicited_of_map (spec_of life) sid m) is.sid in
             goes_on-granted c old life slot e is may alive stays new more.sid more.spec more.from more.to m built
-            (omega (arith, more.counted none, same))
-            (omega (
-              arith,
-              sym (unsolicited-counted life.spec life.sid m),
-              unsolicited-first life.spec life.sid m.wire.elements (front_length m.wire.elements),
-              front_length-≤ m.wire.elements,
-              (may.orderly m built).within,
-            ))
-            silent
-            (subst (λ (sid : ℕ). IsServiceOf c new.service (requests_in life.sid life.since)
-            (grants_since life.sid life.since ++ grants_of_map sid m)) is.sid
-            (more.service none (requests_in life.sid life.since) (grants_since life.sid life.since) is.service))
+            (omega (arith, more.counted none, same)) (omega (arith, more.few, (may.orderly m built).within))
+            (subst (λ (sid : ℕ). IsServiceOf c new.service
+            (map (with_grants (grants_of_map sid m)) (claims_in c life.sid life.since))
+            (asked_in c life.sid life.since) (grants_since life.sid life.since ++ grants_of_map sid m)) is.sid
+            (more.service none (claims_in c life.sid life.since) (asked_in c life.sid life.since)
+            (grants_since life.sid life.since) is.service))
       ]

@@ -39,13 +39,13 @@ no_turn None dead = refl
 no_turn (Some turn) dead = absurd cc
 
 -- a life with one entry more
-module _ (h : List Entry) (e : Entry) (sid : ℕ) (spec : FlowSpec) (upto since : List Entry) where
+module _ (h : List Entry) (e : Entry) (sid : ℕ) (first : FlowSpec) (upto since : List Entry) where
   goes_on : (ended ends : Bool) → is_turn sid e ≡ ends
-      → IsLifeIn h (record { sid = sid; spec = spec; upto = upto; since = since; ended = ended })
+      → IsLifeIn h (record { sid = sid; first = first; upto = upto; since = since; ended = ended })
       → IsLifeIn (h ++ e ∷ []) (if ended
-      then record { sid = sid; spec = spec; upto = upto; since = since; ended = ended }
-      else if ends then record { sid = sid; spec = spec; upto = upto; since = since; ended = true }
-      else record { sid = sid; spec = spec; upto = upto; since = since ++ e ∷ []; ended = ended })
+      then record { sid = sid; first = first; upto = upto; since = since; ended = ended }
+      else if ends then record { sid = sid; first = first; upto = upto; since = since; ended = true }
+      else record { sid = sid; first = first; upto = upto; since = since ++ e ∷ []; ended = ended })
   goes_on true ends is life = record {
     least = life.least;
     most = life.most;
@@ -79,7 +79,7 @@ go_on : (h : List Entry) (e : Entry) (lives : List PastLife) → AllByRecursion 
     → AllByRecursion (IsLifeIn (h ++ e ∷ [])) (map (with_entry e) lives)
 go_on h e [] all = tt
 go_on h e (life ∷ lives) all = (
-  goes_on h e life.sid life.spec life.upto life.since life.ended (is_turn life.sid e) refl all.0,
+  goes_on h e life.sid life.first life.upto life.since life.ended (is_turn life.sid e) refl all.0,
   go_on h e lives all.1,
 )
 

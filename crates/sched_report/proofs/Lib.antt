@@ -1,6 +1,7 @@
 pub mod SlotLists
 pub mod Pushed
 pub mod Frames
+pub mod Called
 pub mod Totalled
 pub mod Reaching
 pub mod Serving
@@ -9,6 +10,7 @@ pub mod Steps
 pub mod NearTold
 pub mod Ranked
 pub mod PastLives
+pub mod Claims
 pub mod Fronts
 pub mod LegalLives
 pub mod MayNotes

@@ -5,13 +5,13 @@ use Rattle.std.specs.Prelude.{is_some, unwrap_or}
 use Rattle.minislots.specs.declared.config.Config.{Config}
 use Rattle.sched_calls.specs.declared.spec.FlowSpec.{FlowSpec}
 use Rattle.sched_calls.specs.declared.spec.FlowSpec.TheVariants.{Unsolicited, Polled, BestEffort}
-use Rattle.sched_history.specs.Life.{grants_since}
+use Rattle.sched_history.specs.Life.{asked_in, grants_since}
 use Rattle.sched_report.specs.declared.life.LifeTally.{LifeTally}
-use Rattle.sched_report.specs.Lives.{PastLife, requests_in}
-use Rattle.sched_report.specs.Said.{granted_under}
+use Rattle.sched_report.specs.Lives.{PastLife}
+use Rattle.sched_report.specs.Said.{claims_of, granted_under}
 use Rattle.sched_report.specs.Told.{IsLifeOf}
 use Rattle.sched_report.specs.ToldLives.{AreLives}
-use Rattle.sched_report.proofs.LifeNotes.{few_requests}
+use Rattle.sched_report.proofs.Claims.{few_claims}
 use Rattle.sched_report.proofs.Serving.{few_served}
 
 -- an end is told of a life that has ended, and of no other
@@ -41,15 +41,16 @@ granted_under-data (BestEffort priority rate burst) unsolicited bytes other = re
 
 module _ (c : Config) (t : LifeTally) (life : PastLife) (is : IsLifeOf c t life) where
   -- there are few requests
-  pub few_asked : length (requests_in life.sid life.since) ≤ 2 ^ 44
-  few_asked = omega (arith, few_requests life.sid life.since, is.few)
+  pub few_asked : length (claims_of c life) ≤ 2 ^ 44
+  few_asked = omega (arith, few_claims c life.sid life.since, is.few)
 
   -- and few are served
   pub few_told : t.service.delays.served ≤ 2 ^ 44
   few_told = omega (
     arith,
     few_asked,
-    few_served c t.service (requests_in life.sid life.since) (grants_since life.sid life.since) is.service,
+    few_served c t.service (claims_of c life) (asked_in c life.sid life.since) (grants_since life.sid life.since)
+        is.service,
   )
 
   -- alone it is the only one

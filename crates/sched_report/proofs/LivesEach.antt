@@ -19,17 +19,19 @@ use Rattle.sched_history.specs.Time.{next_after}
 use Rattle.sched_report.specs.declared.life.LifeTally.{LifeTally}
 use Rattle.sched_report.specs.declared.lives.Opening.{Opening}
 use Rattle.sched_report.specs.declared.service.Request.{Request}
-use Rattle.sched_report.specs.Lives.{PastLife, opening_by, lives_of, request_by, IsRequest, IsOpening}
+use Rattle.sched_report.specs.Lives.{PastLife, opening_by, lives_of, IsRequest, IsOpening}
+use Rattle.sched_report.specs.Requests.{request_by}
 use Rattle.sched_report.specs.Told.{IsLifeOf}
 use Rattle.sched_report.specs.ToldLives.{AreLives, MayNoteEach}
 use Rattle.sched_report.proofs.LegalLives.{IsLifeIn, are_lives}
 use Rattle.sched_report.proofs.MayNotes.{may_note}
 
 -- a request is one
-pub is_request : (sid : ℕ) (call : Call) (reply : Reply) (r : Request) → request_by sid call reply ≡ Some r
-    → IsRequest call reply
-is_request sid (calls.Ask receiver other amount heard) replies.Taken r is = tt
-is_request sid call reply r is = absurd (cc)
+pub is_request : (c : Config) (sid : ℕ) (call : Call) (reply : Reply) (r : Request)
+    → request_by c sid call reply ≡ Some r → IsRequest call reply
+is_request c sid (calls.Ask receiver other amount heard) replies.Taken r is = tt
+is_request c sid (calls.Replace receiver other amount heard) replies.Taken r is = tt
+is_request c sid call reply r is = absurd (cc)
 
 -- an admission begins a life
 pub is_opening : (call : Call) (reply : Reply) (o : Opening) → opening_by call reply ≡ Some o → IsOpening call reply
@@ -38,7 +40,7 @@ is_opening call reply o is = absurd (cc)
 
 -- what a place past the end of a list of lives is read as; no definition depends on it
 abbrev pub no_life : PastLife
-no_life = record { sid = 0; spec = BestEffort 0 0 0; upto = []; since = []; ended = true }
+no_life = record { sid = 0; first = BestEffort 0 0 0; upto = []; since = []; ended = true }
 
 module _ (c : Config) (ts : List LifeTally) (ls : List PastLife) (are : AreLives c ts ls) where
   -- one of them changes, and what is told of its life stays

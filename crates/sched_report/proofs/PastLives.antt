@@ -1,60 +1,55 @@
 -- The lives of a history with one entry more.
-use Rattle.std.proofs.Common.{◌≡◌, ℕ, Bool, true, false, List, [], ◌∷◌, ◌++◌, map, Option, None, Some, refl, sym, ap}
+use Rattle.std.proofs.Common.{◌≡◌, ◌||◌, Bool, true, false, List, [], ◌∷◌, ◌++◌, map, Option, None, Some, refl, sym, ap}
 use Rattle.std.proofs.Common.{◌∙◌, if◌then◌else◌, append_assoc}
+use Rattle.std.specs.List.{list_any}
 use Rattle.std.proofs.lemmas.List.{append-nil, map-append}
 use Rattle.sched_calls.specs.declared.reply.Entry.{Entry}
 use Rattle.sched_report.specs.declared.lives.Opening.{Opening}
-use Rattle.sched_report.specs.Lives.{PastLife, opening_by, is_turn, until_turn, has_turn, life_begun}
+use Rattle.sched_report.specs.Lives.{PastLife, opening_by, is_turn, until, life_begun}
 use Rattle.sched_report.specs.Lives.{lives_after, lives_of, with_entry}
 
--- the entries of a life with one more, where it has ended or not, and the entry ends it or not
-abbrev more_since : Bool → Bool → Entry → List Entry → List Entry
-more_since ended ends e since = if ended then since else if ends then since else since ++ e ∷ []
+-- some entries with one more, where one of them has passed a test or not, and the last one passes it or not
+abbrev pub more_until : Bool → Bool → Entry → List Entry → List Entry
+more_until passed passes e es = if passed then es else if passes then es else es ++ e ∷ []
 
--- whether it has ended then
-abbrev ended_then : Bool → Bool → Bool
-ended_then ended ends = if ended then true else ends
+until_behind : (b passed passes : Bool) (x e : Entry) (es more : List Entry) → more ≡ more_until passed passes e es
+    → (if b then [] else x ∷ more) ≡ more_until (b || passed) passes e (if b then [] else x ∷ es)
+until_behind true passed passes x e es more is = refl
+until_behind false true passes x e es more is = ap (λ (es : List Entry). x ∷ es) is
+until_behind false false true x e es more is = ap (λ (es : List Entry). x ∷ es) is
+until_behind false false false x e es more is = ap (λ (es : List Entry). x ∷ es) is
 
-same_test : (b : Bool) → (if b then true else false) ≡ b
+either_passes : (b passed passes more : Bool) → more ≡ (passed || passes) → (b || more) ≡ ((b || passed) || passes)
+either_passes true passed passes more is = refl
+either_passes false passed passes more is = is
+
+same_test : (b : Bool) → (b || false) ≡ b
 same_test true = refl
 same_test false = refl
 
-since_behind : (b ended ends : Bool) (x e : Entry) (since more : List Entry) → more ≡ more_since ended ends e since
-    → (if b then [] else x ∷ more)
-    ≡ more_since (if b then true else ended) ends e (if b then [] else x ∷ since)
-since_behind true ended ends x e since more is = refl
-since_behind false true ends x e since more is = ap (λ (es : List Entry). x ∷ es) is
-since_behind false false true x e since more is = ap (λ (es : List Entry). x ∷ es) is
-since_behind false false false x e since more is = ap (λ (es : List Entry). x ∷ es) is
+module _ (test : Entry → Bool) where
+  -- up to the next entry that passes a test, with one entry more
+  pub until-push : (es : List Entry) (e : Entry)
+      → until test (es ++ e ∷ []) ≡ more_until (list_any test es) (test e) e (until test es)
+  until-push [] e = refl
+  until-push (x ∷ es) e =
+      until_behind (test x) (list_any test es) (test e) x e (until test es) (until test (es ++ e ∷ []))
+      (until-push es e)
 
--- up to the next turn, with one entry more
-until_turn-push : (sid : ℕ) (es : List Entry) (e : Entry)
-    → until_turn sid (es ++ e ∷ []) ≡ more_since (has_turn sid es) (is_turn sid e) e (until_turn sid es)
-until_turn-push sid [] e = refl
-until_turn-push sid (x ∷ es) e =
-    since_behind (is_turn sid x) (has_turn sid es) (is_turn sid e) x e (until_turn sid es)
-    (until_turn sid (es ++ e ∷ [])) (until_turn-push sid es e)
-
-ended_behind : (b ended ends more : Bool) → more ≡ ended_then ended ends
-    → (if b then true else more) ≡ ended_then (if b then true else ended) ends
-ended_behind true ended ends more is = refl
-ended_behind false ended ends more is = is
-
-has_turn-push : (sid : ℕ) (es : List Entry) (e : Entry)
-    → has_turn sid (es ++ e ∷ []) ≡ ended_then (has_turn sid es) (is_turn sid e)
-has_turn-push sid [] e = same_test (is_turn sid e)
-has_turn-push sid (x ∷ es) e =
-    ended_behind (is_turn sid x) (has_turn sid es) (is_turn sid e) (has_turn sid (es ++ e ∷ []))
-    (has_turn-push sid es e)
+  -- and whether one has passed it
+  pub any-push : (es : List Entry) (e : Entry) → list_any test (es ++ e ∷ []) ≡ (list_any test es || test e)
+  any-push [] e = same_test (test e)
+  any-push (x ∷ es) e =
+      either_passes (test x) (list_any test es) (test e) (list_any test (es ++ e ∷ [])) (any-push es e)
 
 -- a life of a SID, with these entries
 abbrev life_with : Opening → List Entry → List Entry → Bool → PastLife
 life_with o upto since ended =
-    record { sid = o.sid; spec = o.spec; upto = upto; since = since; ended = ended }
+    record { sid = o.sid; first = o.spec; upto = upto; since = since; ended = ended }
 
 -- a life with one entry more, by whether it has ended and whether the entry ends it
 life_more : (o : Opening) (upto since more : List Entry) (ended ends last : Bool) (e : Entry)
-    → more ≡ more_since ended ends e since → last ≡ ended_then ended ends
+    → more ≡ more_until ended ends e since → last ≡ (ended || ends)
     → life_with o upto more last
     ≡ (if ended then life_with o upto since ended
     else if ends then life_with o upto since true
@@ -70,9 +65,10 @@ life_begun-push : (upto : List Entry) (o : Option Opening) (es : List Entry) (e 
     → life_begun upto o (es ++ e ∷ []) ≡ map (with_entry e) (life_begun upto o es)
 life_begun-push upto None es e = refl
 life_begun-push upto (Some o) es e =
+    let test : Entry → Bool = is_turn o.sid in
     ap (λ (life : PastLife). life ∷ [])
-    (life_more o upto (until_turn o.sid es) (until_turn o.sid (es ++ e ∷ [])) (has_turn o.sid es) (is_turn o.sid e)
-    (has_turn o.sid (es ++ e ∷ [])) e (until_turn-push o.sid es e) (has_turn-push o.sid es e))
+    (life_more o upto (until test es) (until test (es ++ e ∷ [])) (list_any test es) (test e)
+    (list_any test (es ++ e ∷ [])) e (until-push test es e) (any-push test es e))
 
 -- each life goes on with the entry, and one may begin
 lives_after-push : (before es : List Entry) (e : Entry)

@@ -15,8 +15,9 @@ use Rattle.sched_calls.specs.FlowSpec.{takes_requests}
 use Rattle.sched_report.specs.declared.life.LifeTally.{LifeTally}
 use Rattle.sched_report.specs.declared.ranks.RankSums.{RankSums}
 use Rattle.sched_report.specs.Delays.{least_of, greatest_of}
-use Rattle.sched_report.specs.Lives.{PastLife, requests_in}
-use Rattle.sched_report.specs.Said.{delays_in, granted_under, granted_in, waiting_in, dropped_in}
+use Rattle.sched_report.specs.Lives.{PastLife, spec_of}
+use Rattle.sched_report.specs.Said.{claims_of, delays_in, granted_under, granted_in, waiting_in, dropped_in}
+use Rattle.sched_report.specs.Said.{replaced_in}
 use Rattle.sched_report.specs.Ranks.{is_chosen, chosen, delays_in_all, both_least, both_greatest, AreRankSums}
 use Rattle.sched_report.specs.Told.{IsLifeOf}
 use Rattle.sched_report.specs.ToldLives.{AreLives}
@@ -26,7 +27,7 @@ pub chosen-more : (rank : Option ℕ) (ls : List PastLife) (i : ℕ) (d : PastLi
     → chosen rank (take (i + 1) ls) ≡ chosen rank (take i ls) ++ chosen rank (get_or ls i d ∷ [])
 chosen-more rank ls i d inside =
     ap (chosen rank) (take_more ls i d inside)
-    ∙ filter-append (λ (l : PastLife). is_chosen rank l.spec) (take i ls) (get_or ls i d ∷ [])
+    ∙ filter-append (λ (l : PastLife). is_chosen rank (spec_of l)) (take i ls) (get_or ls i d ∷ [])
 
 -- the delays of two lists of lives
 pub delays_in_all-append : (c : Config) (xs ys : List PastLife)
@@ -71,19 +72,21 @@ granted_under-asking (BestEffort priority rate burst) unsolicited bytes asks = r
 
 -- the sums over some lives and one more
 pub AreRankSums-push : (c : Config) (s new : RankSums) (ls : List PastLife) (l : PastLife) → AreRankSums c s ls
-    → new.asks ≡ s.asks + length (requests_in l.sid l.since) → new.granted ≡ s.granted + granted_in l
+    → new.asks ≡ s.asks + length (claims_of c l) → new.granted ≡ s.granted + granted_in l
     → new.waiting ≡ s.waiting + waiting_in c l → new.dropped ≡ s.dropped + dropped_in c l
+    → new.replaced ≡ s.replaced + replaced_in c l
     → new.served ≡ s.served + length (delays_in c l) → new.least ≡ both_least s.least (least_of (delays_in c l))
     → new.greatest ≡ both_greatest s.greatest (greatest_of (delays_in c l)) → AreRankSums c new (ls ++ l ∷ [])
-AreRankSums-push c s new ls l are asks granted waiting dropped served least greatest =
+AreRankSums-push c s new ls l are asks granted waiting dropped replaced served least greatest =
     let all : delays_in_all c (ls ++ l ∷ []) ≡ delays_in_all c ls ++ delays_in c l =
     delays_in_all-append c ls (l ∷ [])
     ∙ ap (λ (ds : List ℕ). delays_in_all c ls ++ ds) (append-nil (delays_in c l)) in
     record {
-      asks = omega (arith, asks, are.asks, sum_by_push (λ (l : PastLife). length (requests_in l.sid l.since)) ls l);
+      asks = omega (arith, asks, are.asks, sum_by_push (λ (l : PastLife). length (claims_of c l)) ls l);
       granted = omega (arith, granted, are.granted, sum_by_push granted_in ls l);
       waiting = omega (arith, waiting, are.waiting, sum_by_push (waiting_in c) ls l);
       dropped = omega (arith, dropped, are.dropped, sum_by_push (dropped_in c) ls l);
+      replaced = omega (arith, replaced, are.replaced, sum_by_push (replaced_in c) ls l);
       served = omega (
         arith,
         served,

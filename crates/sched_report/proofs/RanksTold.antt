@@ -17,27 +17,27 @@ use Rattle.sched_report.specs.RanksTold.{AreRanksTold, IsRankTold, ranks_served,
 
 -- The ranks are those of the first ones that asked, each with its numbers
 pub record AreFirstRanks (c : Config) (h : List Entry) (told : List RankTold) (n : ℕ) : Type 0 where
-  pub those : map (λ t. t.rank) told ≡ filter (has_asked h) (take n ranks_served)
+  pub those : map (λ t. t.rank) told ≡ filter (has_asked c h) (take n ranks_served)
   pub each : AllByRecursion (IsRankTold c h) told
 
 -- whether a rank asked, by the number of its requests
 asked-some : (c : Config) (h : List Entry) (rank : ℕ) (numbers : RankNumbers)
-    → AreRankNumbers c numbers (lives_of_rank rank (lives_of h)) → 0 < numbers.sums.asks → has_asked h rank ≡ true
+    → AreRankNumbers c numbers (lives_of_rank rank (lives_of h)) → 0 < numbers.sums.asks → has_asked c h rank ≡ true
 asked-some c h rank numbers are some =
-    lt-ltb 0 (asks_among (lives_of_rank rank (lives_of h))) (omega (arith, some, are.sums.asks))
+    lt-ltb 0 (asks_among c (lives_of_rank rank (lives_of h))) (omega (arith, some, are.sums.asks))
 
 asked-none : (c : Config) (h : List Entry) (rank : ℕ) (numbers : RankNumbers)
-    → AreRankNumbers c numbers (lives_of_rank rank (lives_of h)) → numbers.sums.asks ≤ 0 → has_asked h rank ≡ false
+    → AreRankNumbers c numbers (lives_of_rank rank (lives_of h)) → numbers.sums.asks ≤ 0 → has_asked c h rank ≡ false
 asked-none c h rank numbers are none =
-    le-ltb 0 (asks_among (lives_of_rank rank (lives_of h))) (omega (arith, none, are.sums.asks))
+    le-ltb 0 (asks_among c (lives_of_rank rank (lives_of h))) (omega (arith, none, are.sums.asks))
 
 -- the ranks that asked among the first, and the next one
-ranks-more : (h : List Entry) (n d : ℕ) → n < 9
-    → filter (has_asked h) (take (n + 1) ranks_served)
-    ≡ filter (has_asked h) (take n ranks_served) ++ filter (has_asked h) (get_or ranks_served n d ∷ [])
-ranks-more h n d below =
-    ap (filter (has_asked h)) (take_more ranks_served n d below)
-    ∙ filter-append (has_asked h) (take n ranks_served) (get_or ranks_served n d ∷ [])
+ranks-more : (c : Config) (h : List Entry) (n d : ℕ) → n < 9
+    → filter (has_asked c h) (take (n + 1) ranks_served)
+    ≡ filter (has_asked c h) (take n ranks_served) ++ filter (has_asked c h) (get_or ranks_served n d ∷ [])
+ranks-more c h n d below =
+    ap (filter (has_asked c h)) (take_more ranks_served n d below)
+    ∙ filter-append (has_asked c h) (take n ranks_served) (get_or ranks_served n d ∷ [])
 
 -- one more that asked
 pub first-ranks-more : (c : Config) (h : List Entry) (told : List RankTold) (n d : ℕ) (new : RankTold)
@@ -45,13 +45,13 @@ pub first-ranks-more : (c : Config) (h : List Entry) (told : List RankTold) (n d
     → 0 < new.numbers.sums.asks → AreFirstRanks c h (told ++ new ∷ []) (n + 1)
 first-ranks-more c h told n d new first below is numbers some =
     let asked = asked-some c h new.rank new.numbers numbers some in
-    let one : filter (has_asked h) (get_or ranks_served n d ∷ []) ≡ new.rank ∷ [] =
-    ap (λ (r : ℕ). filter (has_asked h) (r ∷ [])) (sym is)
+    let one : filter (has_asked c h) (get_or ranks_served n d ∷ []) ≡ new.rank ∷ [] =
+    ap (λ (r : ℕ). filter (has_asked c h) (r ∷ [])) (sym is)
     ∙ ap (λ (b : Bool). cond b (new.rank ∷ []) []) asked in
     record {
       those = map_push (λ (t : RankTold). t.rank) told new ∙ ap (λ (rs : List ℕ). rs ++ new.rank ∷ []) first.those
-          ∙ ap (λ (rs : List ℕ). filter (has_asked h) (take n ranks_served) ++ rs) (sym one)
-          ∙ sym (ranks-more h n d below);
+          ∙ ap (λ (rs : List ℕ). filter (has_asked c h) (take n ranks_served) ++ rs) (sym one)
+          ∙ sym (ranks-more c h n d below);
       each = all-push (IsRankTold c h) told new first.each numbers;
     }
 
@@ -61,12 +61,12 @@ pub first-ranks-same : (c : Config) (h : List Entry) (told : List RankTold) (n d
     → numbers.sums.asks ≤ 0 → AreFirstRanks c h told (n + 1)
 first-ranks-same c h told n d numbers first below are none =
     let rank = get_or ranks_served n d in
-    let no : filter (has_asked h) (rank ∷ []) ≡ [] =
+    let no : filter (has_asked c h) (rank ∷ []) ≡ [] =
     ap (λ (b : Bool). cond b (rank ∷ []) []) (asked-none c h rank numbers are none) in
     record {
-      those = first.those ∙ sym (append-nil (filter (has_asked h) (take n ranks_served)))
-          ∙ ap (λ (rs : List ℕ). filter (has_asked h) (take n ranks_served) ++ rs) (sym no)
-          ∙ sym (ranks-more h n d below);
+      those = first.those ∙ sym (append-nil (filter (has_asked c h) (take n ranks_served)))
+          ∙ ap (λ (rs : List ℕ). filter (has_asked c h) (take n ranks_served) ++ rs) (sym no)
+          ∙ sym (ranks-more c h n d below);
       each = first.each;
     }
 
@@ -74,6 +74,6 @@ first-ranks-same c h told n d numbers first below are none =
 pub first-ranks-all : (c : Config) (h : List Entry) (told : List RankTold) (n : ℕ)
     → AreFirstRanks c h told n → 9 ≤ n → AreRanksTold c h told
 first-ranks-all c h told n first past = record {
-  those = first.those ∙ ap (filter (has_asked h)) (take_all n ranks_served past);
+  those = first.those ∙ ap (filter (has_asked c h)) (take_all n ranks_served past);
   each = first.each;
 }

@@ -1,19 +1,18 @@
 -- Which grant serves a request, and the delays with one grant or one request more.
-use Rattle.std.proofs.Common.{◌≡◌, ℕ, ◌+◌, ◌-◌, ◌<◌, ◌≤◌, Bool, true, false, List, [], ◌∷◌, ◌++◌, map, filter_map}
+use Rattle.std.proofs.Common.{◌≡◌, ℕ, ◌+◌, ◌-◌, ◌<◌, ◌≤◌, Bool, true, false, List, [], ◌∷◌, ◌++◌, map}
 use Rattle.std.proofs.Common.{Option, None, Some, refl, sym, ap, ◌∙◌, inl, inr, if◌then◌else◌, arith}
+use Rattle.std.proofs.Common.{append_assoc, append-nil}
 use Rattle.std.specs.Prelude.{min, max}
 use Rattle.std.specs.List.{AllByRecursion}
 use Rattle.std.specs.Option.{option_map_or}
 use Rattle.std.proofs.lemmas.Bool.Decides.{leb_tells}
 use Rattle.std.proofs.lemmas.List.Sums.{sum_by-cons}
-use Rattle.sched_calls.specs.Amount.{requested}
 use Rattle.minislots.specs.declared.config.Config.{Config}
 use Rattle.flow_book.specs.declared.flow.Grant.{Grant}
 use Rattle.flow_book.specs.Flows.{bytes_of}
-use Rattle.sched_report.specs.declared.service.Request.{Request}
 use Rattle.sched_report.specs.declared.service.Waiting.{Waiting}
-use Rattle.sched_report.specs.Delays.{bytes_asked, marks_from, reaching, delay_until, delay_of}
-use Rattle.sched_report.specs.Delays.{least_of, greatest_of}
+use Rattle.sched_report.specs.Delays.{Claim, reaching, delay_until, delay_of, delays_of, least_of, greatest_of}
+use Rattle.sched_report.specs.Served.{waits_with, with_grants, IsSettled, AreAscending}
 
 -- the bytes of a grant and of those behind it
 pub bytes-cons : (g : Grant) (grants : List Grant) → bytes_of (g ∷ grants) ≡ g.bytes + bytes_of grants
@@ -67,44 +66,92 @@ reaching-last n (f ∷ grants) g past within =
           (omega (arith, within, later.1, bytes-cons f grants))
     ]
 
--- these requests were reached
-abbrev pub AreReached : ℕ → List Waiting → Type 0
-AreReached granted marks = AllByRecursion (λ m. (0 < m.upto) × (m.upto ≤ granted)) marks
-
--- none of these was
+-- none of these requests was reached
 abbrev pub AreUnreached : ℕ → List Waiting → Type 0
-AreUnreached granted marks = AllByRecursion (λ m. granted < m.upto) marks
+AreUnreached granted ws = AllByRecursion (λ w. granted < w.upto) ws
 
 -- these are reached between
 abbrev pub AreReachedBetween : ℕ → ℕ → List Waiting → Type 0
-AreReachedBetween before after marks = AllByRecursion (λ m. (before < m.upto) × (m.upto ≤ after)) marks
+AreReachedBetween before after ws = AllByRecursion (λ w. (before < w.upto) × (w.upto ≤ after)) ws
 
--- the delays of some requests
-abbrev pub delays_among : Config → List Grant → List Waiting → List ℕ
-delays_among c grants marks = filter_map (delay_of c grants) marks
+-- requests that wait see each grant more
+pub waits-more : (grants more : List Grant) (ws : List Waiting)
+    → map (with_grants more) (map (waits_with grants) ws) ≡ map (waits_with (grants ++ more)) ws
+waits-more grants more [] = refl
+waits-more grants more (w ∷ ws) =
+    ap (λ (ms : List Claim). waits_with (grants ++ more) w ∷ ms) (waits-more grants more ws)
+
+-- no grant more leaves a request as it was
+no_grants : (b : Bool) (m : Claim) → m.superseded ≡ b → (if b then m else record m { grants = m.grants ++ [] }) ≡ m
+no_grants true m is = refl
+no_grants false m is = ap (λ (gs : List Grant). record m { grants = gs }) (append-nil m.grants)
+
+pub same_claims : (ms : List Claim) → map (with_grants []) ms ≡ ms
+same_claims [] = refl
+same_claims (m ∷ ms) =
+    ap (λ (n : Claim). n ∷ map (with_grants []) ms) (no_grants m.superseded m refl)
+    ∙ ap (λ (ns : List Claim). m ∷ ns) (same_claims ms)
+
+-- some grants more, and then others
+grants_then : (gs hs : List Grant) (b : Bool) (m : Claim) → m.superseded ≡ b
+    → with_grants hs (with_grants gs m) ≡ with_grants (gs ++ hs) m
+grants_then gs hs true m is =
+    let first : with_grants gs m ≡ m = yes m.superseded m (record m { grants = m.grants ++ gs }) is in
+    ap (with_grants hs) first ∙ yes m.superseded m (record m { grants = m.grants ++ hs }) is
+    ∙ sym (yes m.superseded m (record m { grants = m.grants ++ (gs ++ hs) }) is)
+grants_then gs hs false m is =
+    let now : Claim = record m { grants = m.grants ++ gs } in
+    let first : with_grants gs m ≡ now = no m.superseded m now is in
+    ap (with_grants hs) first ∙ no now.superseded now (record now { grants = now.grants ++ hs }) is
+    ∙ ap (λ (xs : List Grant). record m { grants = xs }) (append_assoc m.grants gs hs)
+    ∙ sym (no m.superseded m (record m { grants = m.grants ++ (gs ++ hs) }) is)
+
+pub claims_then : (gs hs : List Grant) (ms : List Claim)
+    → map (with_grants hs) (map (with_grants gs) ms) ≡ map (with_grants (gs ++ hs)) ms
+claims_then gs hs [] = refl
+claims_then gs hs (m ∷ ms) =
+    ap (λ (n : Claim). n ∷ map (with_grants hs) (map (with_grants gs) ms)) (grants_then gs hs m.superseded m refl)
+    ∙ ap (λ (ns : List Claim). with_grants (gs ++ hs) m ∷ ns) (claims_then gs hs ms)
+
+either_same : (b : Bool) (m : Claim) (more : List Grant)
+    → (if b then m else record m { grants = m.grants ++ more }).superseded ≡ m.superseded
+either_same true m more = refl
+either_same false m more = refl
+
+-- a request is superseded, or not, whatever more is granted
+pub superseded-same : (more : List Grant) (m : Claim) → (with_grants more m).superseded ≡ m.superseded
+superseded-same more m = either_same m.superseded m more
 
 module _ (c : Config) where
-  -- requests that no grant reaches have none
-  pub delays-unreached : (grants : List Grant) (marks : List Waiting) → AreUnreached (bytes_of grants) marks
-      → delays_among c grants marks ≡ []
+  -- requests that no grant reaches have no delay
+  pub delays-unreached : (grants : List Grant) (ws : List Waiting) → AreUnreached (bytes_of grants) ws
+      → delays_of c (map (waits_with grants) ws) ≡ []
   delays-unreached grants [] none = refl
-  delays-unreached grants (m ∷ marks) none =
-      rw (reaching-none m.upto grants none.0) (delays-unreached grants marks none.1)
-
-  -- those that were served keep theirs
-  pub delays-reached : (grants more : List Grant) (marks : List Waiting) → AreReached (bytes_of grants) marks
-      → delays_among c (grants ++ more) marks ≡ delays_among c grants marks
-  delays-reached grants more [] reached = refl
-  delays-reached grants more (m ∷ marks) reached =
-      rw (reaching-more m.upto grants more reached.0.0 reached.0.1, delays-reached grants more marks reached.1) refl
+  delays-unreached grants (w ∷ ws) none =
+      rw (reaching-none w.upto grants none.0) (delays-unreached grants ws none.1)
 
   -- those that the last grant reaches are served by it
-  pub delays-last : (grants : List Grant) (g : Grant) (marks : List Waiting)
-      → AreReachedBetween (bytes_of grants) (bytes_of grants + g.bytes) marks
-      → delays_among c (grants ++ g ∷ []) marks ≡ map (λ m. delay_until c m.heard g) marks
+  pub delays-last : (grants : List Grant) (g : Grant) (ws : List Waiting)
+      → AreReachedBetween (bytes_of grants) (bytes_of grants + g.bytes) ws
+      → delays_of c (map (waits_with (grants ++ g ∷ [])) ws) ≡ map (λ w. delay_until c w.heard g) ws
   delays-last grants g [] reached = refl
-  delays-last grants g (m ∷ marks) reached =
-      rw (reaching-last m.upto grants g reached.0.0 reached.0.1, delays-last grants g marks reached.1) refl
+  delays-last grants g (w ∷ ws) reached =
+      rw (reaching-last w.upto grants g reached.0.0 reached.0.1, delays-last grants g ws reached.1) refl
+
+  -- no grant more changes the delay of a request that is settled
+  pub delay-settled : (grants more : List Grant) (m : Claim) → IsSettled grants m
+      → delay_of c (with_grants more m) ≡ delay_of c m
+  delay-settled grants more m settled =
+      elim settled [
+        | inl over ↦ ap (delay_of c) (yes m.superseded m (record m { grants = m.grants ++ more }) over)
+        | inr served ↦
+            let seen : with_grants more m ≡ record m { grants = m.grants ++ more } =
+            no m.superseded m (record m { grants = m.grants ++ more }) served.stays in
+            let same : reaching m.upto (m.grants ++ more) ≡ reaching m.upto m.grants =
+            reaching-more m.upto m.grants more served.some
+            (omega (arith, served.within, ap bytes_of served.sees)) in
+            ap (delay_of c) seen ∙ rw same refl
+      ]
 
 -- the least of three, in two orders
 least_step : (o : Option ℕ) (m n : ℕ)
@@ -130,41 +177,33 @@ pub greatest_of-push : (ns : List ℕ) (n : ℕ)
 greatest_of-push [] n = refl
 greatest_of-push (m ∷ ns) n = rw (greatest_of-push ns n) (ap Some (greatest_step (greatest_of ns) m n))
 
--- the marks with one request more
-pub marks_from-push : (c : Config) (asked : ℕ) (requests : List Request) (r : Request)
-    → marks_from c asked (requests ++ r ∷ []) ≡ marks_from c asked requests
-    ++ record { upto = asked + bytes_asked c requests + requested c r.amount; heard = r.heard } ∷ []
-marks_from-push c asked [] r =
-    ap (λ (n : ℕ). record { upto = n + requested c r.amount; heard = r.heard } ∷ []) (omega arith)
-marks_from-push c asked (q ∷ requests) r =
-    let upto : ℕ = asked + requested c q.amount in
-    let sum : upto + bytes_asked c requests ≡ asked + bytes_asked c (q ∷ requests) =
-    omega (arith, sum_by-cons (λ (r : Request). requested c r.amount) q requests) in
-    ap (λ (ms : List Waiting). record { upto = upto; heard = q.heard } ∷ ms)
-    (marks_from-push c upto requests r
-    ∙ ap (λ (n : ℕ). marks_from c upto requests
-    ++ record { upto = n + requested c r.amount; heard = r.heard } ∷ []) sum)
+-- more may have been asked by the last of some requests
+pub ascending-within : (from last most : ℕ) (ws : List Waiting) → last ≤ most → AreAscending from last ws
+    → AreAscending from most ws
+ascending-within from last most [] le ascend = tt
+ascending-within from last most (w ∷ ws) le ascend =
+    (ascend.0, omega (arith, ascend.1, le), ascending-within w.upto last most ws le ascend.2)
 
--- each mark is at or after the one before it
-abbrev pub MarksAscend : ℕ → List Waiting → Type 0
-MarksAscend from [] = Unit {0}
-MarksAscend from (m ∷ marks) = (from ≤ m.upto) × MarksAscend m.upto marks
+-- a request more asks more than all before it
+pub ascending-push : (from last : ℕ) (ws : List Waiting) (w : Waiting) → from ≤ last → last ≤ w.upto
+    → AreAscending from last ws → AreAscending from w.upto (ws ++ w ∷ [])
+ascending-push from last [] w first le ascend = (omega (arith, first, le), omega arith, tt)
+ascending-push from last (v ∷ ws) w first le ascend = (
+  ascend.0,
+  omega (arith, ascend.1, le),
+  ascending-push v.upto last ws w ascend.1 le ascend.2,
+)
 
--- the marks of requests do
-pub marks_ascend : (c : Config) (asked : ℕ) (requests : List Request)
-    → MarksAscend asked (marks_from c asked requests)
-marks_ascend c asked [] = tt
-marks_ascend c asked (r ∷ requests) = (omega arith, marks_ascend c (asked + requested c r.amount) requests)
-
--- so they are behind some of them
-pub ascend-behind : (from : ℕ) (some marks : List Waiting) → MarksAscend from (some ++ marks) → MarksAscend 0 marks
-ascend-behind from [] [] ascend = tt
-ascend-behind from [] (m ∷ marks) ascend = (omega arith, ascend.1)
-ascend-behind from (m ∷ some) marks ascend = ascend-behind m.upto some marks ascend.1
+-- so do those behind some of them
+pub ascending-behind : (from last : ℕ) (some ws : List Waiting) → AreAscending from last (some ++ ws)
+    → AreAscending 0 last ws
+ascending-behind from last [] [] ascend = tt
+ascending-behind from last [] (w ∷ ws) ascend = (omega arith, ascend.1, ascend.2)
+ascending-behind from last (v ∷ some) ws ascend = ascending-behind v.upto last some ws ascend.2
 
 -- where the first is not reached none is
-pub unreached-first : (granted from : ℕ) (marks : List Waiting) → granted < from → MarksAscend from marks
-    → AreUnreached granted marks
-unreached-first granted from [] past ascend = tt
-unreached-first granted from (m ∷ marks) past ascend =
-    (omega (arith, past, ascend.0), unreached-first granted m.upto marks (omega (arith, past, ascend.0)) ascend.1)
+pub unreached-first : (granted from last : ℕ) (ws : List Waiting) → granted < from → AreAscending from last ws
+    → AreUnreached granted ws
+unreached-first granted from last [] past ascend = tt
+unreached-first granted from last (w ∷ ws) past ascend =
+    (omega (arith, past, ascend.0), unreached-first granted w.upto last ws (omega (arith, past, ascend.0)) ascend.2)

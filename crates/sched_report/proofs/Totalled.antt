@@ -18,27 +18,50 @@ use Rattle.sched_report.specs.declared.slots.Slots.{Slots}
 use Rattle.sched_report.specs.declared.totals.Totals.{Totals}
 use Rattle.sched_report.specs.Counts.{calls_of}
 use Rattle.sched_report.specs.Uses.{slots_in, all_slots, sum_of}
-use Rattle.sched_report.specs.Totals.{last_of, is_skip_answer, totals_of, with_frame, AreTotals}
+use Rattle.sched_report.specs.Totals.{last_of, is_skip_answer, is_replacement, totals_of, with_frame, AreTotals}
 use Rattle.sched_report.proofs.Pushed.{slots_of-built, slots_of-unbuilt, first-push, last-push}
 
 -- so many of each number
-abbrev totals_with : ℕ → Option ℕ → Option ℕ → ℕ → Calls → Slots → Totals
-totals_with frames from to skips calls slots =
-    record { frames = frames; from = from; to = to; skips = skips; calls = calls; slots = slots }
+abbrev totals_with : ℕ → Option ℕ → Option ℕ → ℕ → ℕ → Calls → Slots → Totals
+totals_with frames from to skips replaces calls slots = record {
+  frames = frames;
+  from = from;
+  to = to;
+  skips = skips;
+  replaces = replaces;
+  calls = calls;
+  slots = slots;
+}
 
 -- numbers are the same where each of them is
 pub same_totals : (a b : Totals) → a.frames ≡ b.frames → a.from ≡ b.from → a.to ≡ b.to → a.skips ≡ b.skips
-    → a.calls ≡ b.calls → a.slots ≡ b.slots → a ≡ b
-same_totals a b frames from to skips calls slots =
-    ap (λ n. totals_with n a.from a.to a.skips a.calls a.slots) frames
-    ∙ ap (λ n. totals_with b.frames n a.to a.skips a.calls a.slots) from
-    ∙ ap (λ n. totals_with b.frames b.from n a.skips a.calls a.slots) to
-    ∙ ap (λ n. totals_with b.frames b.from b.to n a.calls a.slots) skips
-    ∙ ap (λ n. totals_with b.frames b.from b.to b.skips n a.slots) calls
-    ∙ ap (λ n. totals_with b.frames b.from b.to b.skips b.calls n) slots
+    → a.replaces ≡ b.replaces → a.calls ≡ b.calls → a.slots ≡ b.slots → a ≡ b
+same_totals a b frames from to skips replaces calls slots =
+    ap (λ n. totals_with n a.from a.to a.skips a.replaces a.calls a.slots) frames
+    ∙ ap (λ n. totals_with b.frames n a.to a.skips a.replaces a.calls a.slots) from
+    ∙ ap (λ n. totals_with b.frames b.from n a.skips a.replaces a.calls a.slots) to
+    ∙ ap (λ n. totals_with b.frames b.from b.to n a.replaces a.calls a.slots) skips
+    ∙ ap (λ n. totals_with b.frames b.from b.to b.skips n a.calls a.slots) replaces
+    ∙ ap (λ n. totals_with b.frames b.from b.to b.skips b.replaces n a.slots) calls
+    ∙ ap (λ n. totals_with b.frames b.from b.to b.skips b.replaces b.calls n) slots
 
-module _ (c : Config) (h : List Entry) (e : Entry) (t : Totals) (calls : Calls) (are : AreTotals c h t)
-    (called : calls ≡ calls_of (h ++ e ∷ [])) where
+module _ (c : Config) (h : List Entry) (e : Entry) (t : Totals) (calls : Calls) (replaces : ℕ) (are : AreTotals c h t)
+    (called : calls ≡ calls_of (h ++ e ∷ []))
+    (replaced : replaces ≡ t.replaces + (if is_replacement e.call e.reply then 1 else 0)) where
+  -- the totals with the call of the entry
+  abbrev counted_call : Totals
+  counted_call = record t { calls = calls; replaces = replaces }
+
+  -- how many requests superseded others
+  replaces-push : replaces ≡ count_by (λ x. is_replacement x.call x.reply) (h ++ e ∷ [])
+  replaces-push =
+      omega (
+        arith,
+        replaced,
+        ap (λ (t : Totals). t.replaces) are.value,
+        sum_by_push (λ (x : Entry). if is_replacement x.call x.reply then 1 else 0) h e,
+      )
+
   -- how often frames were left out
   skips-push : count_by (λ x. is_skip_answer x.reply) (h ++ e ∷ [])
       ≡ count_by (λ x. is_skip_answer x.reply) h + (if is_skip_answer e.reply then 1 else 0)
@@ -47,7 +70,7 @@ module _ (c : Config) (h : List Entry) (e : Entry) (t : Totals) (calls : Calls) 
   -- a MAP more is a frame more
   pub totals-built : (m : FrameMap) (s : Slots) → e.reply ≡ replies.Built m
       → s ≡ slots_in (record { before = h; built = m })
-      → with_frame c.frame (record t { calls = calls }) m s ≡ totals_of c (h ++ e ∷ [])
+      → with_frame c.frame counted_call m s ≡ totals_of c (h ++ e ∷ [])
   totals-built m s is slots =
       let maps : maps_of (h ++ e ∷ []) ≡ maps_of h ++ m ∷ [] = maps_of-built h e m is in
       same_totals _ _
@@ -58,6 +81,7 @@ module _ (c : Config) (h : List Entry) (e : Entry) (t : Totals) (calls : Calls) 
       (sym (ap (λ ms. option_map (λ m. m.start + c.frame) (last_of ms)) maps
       ∙ ap (option_map (λ m. m.start + c.frame)) (last-push (maps_of h) m)))
       (ap (λ t. t.skips) are.value ∙ sym (skips-push ∙ rw is (omega arith)))
+      replaces-push
       called
       (ap (λ u. sum_of t.slots u) slots
       ∙ ap (λ u. sum_of u.slots (slots_in (record { before = h; built = m }))) are.value
@@ -66,7 +90,7 @@ module _ (c : Config) (h : List Entry) (e : Entry) (t : Totals) (calls : Calls) 
   -- without a MAP there is no frame more
   pub totals-unbuilt : (skips : ℕ) → map_by e.reply ≡ None
       → skips ≡ t.skips + (if is_skip_answer e.reply then 1 else 0)
-      → record t { calls = calls; skips = skips } ≡ totals_of c (h ++ e ∷ [])
+      → record counted_call { skips = skips } ≡ totals_of c (h ++ e ∷ [])
   totals-unbuilt skips none more =
       let maps : maps_of (h ++ e ∷ []) ≡ maps_of h = maps_of-unbuilt h e none in
       same_totals _ _
@@ -74,12 +98,13 @@ module _ (c : Config) (h : List Entry) (e : Entry) (t : Totals) (calls : Calls) 
       (ap (λ t. t.from) are.value ∙ sym (ap (λ ms. option_map (λ m. m.start) (slice_get ms 0)) maps))
       (ap (λ t. t.to) are.value ∙ sym (ap (λ ms. option_map (λ m. m.start + c.frame) (last_of ms)) maps))
       (more ∙ ap (λ n. n + (if is_skip_answer e.reply then 1 else 0)) (ap (λ t. t.skips) are.value) ∙ sym skips-push)
+      replaces-push
       called
       (ap (λ t. t.slots) are.value ∙ sym (slots_of-unbuilt h e none))
 
   -- what is counted with a MAP more
   pub AreTotals-built : (m : FrameMap) (new : Totals) → e.reply ≡ replies.Built m
-      → new ≡ with_frame c.frame (record t { calls = calls }) m (slots_in (record { before = h; built = m }))
+      → new ≡ with_frame c.frame counted_call m (slots_in (record { before = h; built = m }))
       → all_slots new.slots ≤ all_slots t.slots + 2 ^ 14 → AreTotals c (h ++ e ∷ []) new
   AreTotals-built m new is counted more = record {
     value = counted ∙ totals-built m (slots_in (record { before = h; built = m })) is refl;
@@ -90,7 +115,7 @@ module _ (c : Config) (h : List Entry) (e : Entry) (t : Totals) (calls : Calls) 
   -- and without one
   pub AreTotals-unbuilt : (skips : ℕ) → map_by e.reply ≡ None
       → skips ≡ t.skips + (if is_skip_answer e.reply then 1 else 0)
-      → AreTotals c (h ++ e ∷ []) (record t { calls = calls; skips = skips })
+      → AreTotals c (h ++ e ∷ []) (record counted_call { skips = skips })
   AreTotals-unbuilt skips none more = record {
     value = totals-unbuilt skips none more;
     few = omega (arith, are.few, length_push h e);
@@ -104,6 +129,7 @@ pub neither : (reply : Reply) → ((m : FrameMap) → reply ≡ replies.Built m 
 neither (replies.Built m) unbuilt unskipped = absurd (unbuilt m refl)
 neither (replies.Skipped n) unbuilt unskipped = absurd (unskipped n refl)
 neither (replies.Admitted placement) unbuilt unskipped = (refl, refl)
+neither (replies.Changed placement) unbuilt unskipped = (refl, refl)
 neither replies.Removed unbuilt unskipped = (refl, refl)
 neither replies.Taken unbuilt unskipped = (refl, refl)
 neither replies.Noted unbuilt unskipped = (refl, refl)

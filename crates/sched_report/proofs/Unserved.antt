@@ -1,18 +1,18 @@
--- The requests that wait are those that no grant serves.
-use Rattle.std.proofs.Common.{◌≡◌, ℕ, ◌-◌, ◌<◌, ◌≤◌, Bool, true, false, List, [], ◌∷◌, ◌++◌, length, count_by}
-use Rattle.std.proofs.Common.{Option, None, Some, refl, ap, ◌∙◌, subst, inl, inr, cond, arith}
-use Rattle.std.specs.Prelude.{is_none, option_map}
+-- Each request is served, replaced, or neither.
+use Rattle.std.proofs.Common.{◌≡◌, ℕ, suc, ◌+◌, ◌-◌, ◌<◌, ◌≤◌, ◌&&◌, not, Bool, true, false, List, [], ◌∷◌, length, map}
+use Rattle.std.proofs.Common.{Option, None, Some, refl, ap, ◌∙◌, inl, inr, cond, arith}
+use Rattle.std.specs.Prelude.{count_by, is_none, option_map}
+use Rattle.std.specs.List.{AllByRecursion, cons_option}
 use Rattle.std.proofs.lemmas.Bool.Decides.{leb_tells}
-use Rattle.std.proofs.lemmas.List.Sums.{sum_by-cons, sum_by-append}
+use Rattle.std.proofs.lemmas.List.Sums.{sum_by-cons}
 use Rattle.minislots.specs.declared.config.Config.{Config}
 use Rattle.flow_book.specs.declared.flow.Grant.{Grant}
 use Rattle.flow_book.specs.Flows.{bytes_of}
-use Rattle.sched_report.specs.declared.service.Request.{Request}
-use Rattle.sched_report.specs.declared.service.Service.{Service}
 use Rattle.sched_report.specs.declared.service.Waiting.{Waiting}
-use Rattle.sched_report.specs.Delays.{marks_of, reaching, delay_until, delay_of, unserved_of}
-use Rattle.sched_report.specs.Served.{IsServiceOf}
-use Rattle.sched_report.proofs.Reaching.{AreReached, AreUnreached, reaching-none, yes, no, bytes-cons}
+use Rattle.sched_report.specs.Delays.{Claim, reaching, delay_until, delay_of, delays_of, replaced_of, unserved_of}
+use Rattle.sched_report.specs.Served.{waits_with, with_grants, as_superseded, IsSettled}
+use Rattle.sched_report.proofs.Reaching.{AreUnreached, reaching-none, yes, no, bytes-cons, delay-settled}
+use Rattle.sched_report.proofs.Reaching.{superseded-same}
 
 -- a grant reaches bytes that were granted
 reaching-some : (n : ℕ) (grants : List Grant) → 0 < n → n ≤ bytes_of grants → is_none (reaching n grants) ≡ false
@@ -30,49 +30,127 @@ none_mapped : {X Y : Type 0} (f : X → Y) (o : Option X) → is_none (option_ma
 none_mapped f None = refl
 none_mapped f (Some x) = refl
 
-module _ (c : Config) (grants : List Grant) where
-  abbrev unserved : Waiting → Bool
-  unserved m = is_none (delay_of c grants m)
+-- a request more among those that pass a test
+counted : (p : Claim → Bool) (m : Claim) (ms : List Claim) → count_by p (m ∷ ms) ≡ cond (p m) 1 0 + count_by p ms
+counted p m ms = sum_by-cons (λ (m : Claim). cond (p m) 1 0) m ms
 
-  -- each that is reached is served, and none of the others
-  none_unserved : (marks : List Waiting) → AreReached (bytes_of grants) marks → count_by unserved marks ≡ 0
-  none_unserved [] reached = refl
-  none_unserved (m ∷ marks) reached =
-      let served : unserved m ≡ false =
-      none_mapped (delay_until c m.heard) (reaching m.upto grants)
-      ∙ reaching-some m.upto grants reached.0.0 reached.0.1 in
+-- what one request counts
+one : (superseded unserved : Bool)
+    → cond (superseded && unserved) 1 0 + cond (not superseded && unserved) 1 0 ≡ cond unserved 1 0
+one true true = refl
+one true false = refl
+one false true = refl
+one false false = refl
+
+length-option : {X : Type 0} (o : Option X) (xs : List X)
+    → length (cons_option o xs) + cond (is_none o) 1 0 ≡ suc (length xs)
+length-option None xs = omega arith
+length-option (Some x) xs = omega arith
+
+module _ (c : Config) where
+  abbrev replaced : Claim → Bool
+  replaced m = m.superseded && is_none (delay_of c m)
+
+  abbrev unserved : Claim → Bool
+  unserved m = not m.superseded && is_none (delay_of c m)
+
+  -- each request was served, or was replaced, or is neither
+  pub each_once : (ms : List Claim) → length ms ≡ length (delays_of c ms) + replaced_of c ms + unserved_of c ms
+  each_once [] = refl
+  each_once (m ∷ ms) =
       omega (
         arith,
-        sum_by-cons (λ (m : Waiting). cond (unserved m) 1 0) m marks,
-        ap {B = ℕ} (λ (b : Bool). cond b 1 0) served,
-        none_unserved marks reached.1,
+        each_once ms,
+        counted replaced m ms,
+        counted unserved m ms,
+        one m.superseded (is_none (delay_of c m)),
+        length-option (delay_of c m) (delays_of c ms),
       )
 
-  all_unserved : (marks : List Waiting) → AreUnreached (bytes_of grants) marks
-      → count_by unserved marks ≡ length marks
-  all_unserved [] unreached = refl
-  all_unserved (m ∷ marks) unreached =
-      let waits : unserved m ≡ true =
-      none_mapped (delay_until c m.heard) (reaching m.upto grants)
-      ∙ ap is_none (reaching-none m.upto grants unreached.0) in
+  -- of those that are settled none is neither
+  pub unserved-settled : (grants : List Grant) (ms : List Claim) → AllByRecursion (IsSettled grants) ms
+      → unserved_of c ms ≡ 0
+  unserved-settled grants [] settled = refl
+  unserved-settled grants (m ∷ ms) settled =
+      let over : unserved m ≡ false =
+      elim settled.0 [
+        | inl superseded ↦ ap (λ b. not b && is_none (delay_of c m)) superseded
+        | inr served ↦
+            ap (λ b. not b && is_none (delay_of c m)) served.stays
+            ∙ none_mapped (delay_until c m.heard) (reaching m.upto m.grants)
+            ∙ reaching-some m.upto m.grants served.some (omega (arith, served.within, ap bytes_of served.sees))
+      ] in
       omega (
         arith,
-        sum_by-cons (λ (m : Waiting). cond (unserved m) 1 0) m marks,
+        counted unserved m ms,
+        ap {B = ℕ} (λ (b : Bool). cond b 1 0) over,
+        unserved-settled grants ms settled.1,
+      )
+
+  -- all of those that wait are
+  pub unserved-waiting : (grants : List Grant) (ws : List Waiting) → AreUnreached (bytes_of grants) ws
+      → unserved_of c (map (waits_with grants) ws) ≡ length ws
+  unserved-waiting grants [] unreached = refl
+  unserved-waiting grants (w ∷ ws) unreached =
+      let waits : unserved (waits_with grants w) ≡ true =
+      none_mapped (delay_until c w.heard) (reaching w.upto grants)
+      ∙ ap is_none (reaching-none w.upto grants unreached.0) in
+      omega (
+        arith,
+        counted unserved (waits_with grants w) (map (waits_with grants) ws),
         ap {B = ℕ} (λ (b : Bool). cond b 1 0) waits,
-        all_unserved marks unreached.1,
+        unserved-waiting grants ws unreached.1,
       )
 
--- so those that wait are all that were not served
-pub unserved_of-waiting : (c : Config) (s : Service) (requests : List Request) (grants : List Grant)
-    → IsServiceOf c s requests grants → length s.waiting.items ≡ unserved_of c requests grants
-unserved_of-waiting c s requests grants is =
-    let marks : count_by (unserved c grants) (marks_of c requests)
-    ≡ count_by (unserved c grants) (is.served ++ s.waiting.items) =
-    ap (count_by (unserved c grants)) is.split in
-    omega (
-      arith,
-      marks,
-      sum_by-append (λ (m : Waiting). cond (unserved c grants m) 1 0) is.served s.waiting.items,
-      none_unserved c grants is.served (subst (λ n. AreReached n is.served) is.granted is.reached),
-      all_unserved c grants s.waiting.items (subst (λ n. AreUnreached n s.waiting.items) is.granted is.unreached),
-    )
+  -- and none of them was replaced
+  pub replaced-waiting : (grants : List Grant) (ws : List Waiting) → replaced_of c (map (waits_with grants) ws) ≡ 0
+  replaced-waiting grants [] = refl
+  replaced-waiting grants (w ∷ ws) =
+      omega (
+        arith,
+        counted replaced (waits_with grants w) (map (waits_with grants) ws),
+        replaced-waiting grants ws,
+      )
+
+  -- no grant more changes what is told of those that are settled
+  pub delays-settled : (grants more : List Grant) (ms : List Claim) → AllByRecursion (IsSettled grants) ms
+      → delays_of c (map (with_grants more) ms) ≡ delays_of c ms
+  delays-settled grants more [] settled = refl
+  delays-settled grants more (m ∷ ms) settled =
+      ap (λ (o : Option ℕ). cons_option o (delays_of c (map (with_grants more) ms)))
+      (delay-settled c grants more m settled.0)
+      ∙ ap (λ (ds : List ℕ). cons_option (delay_of c m) ds) (delays-settled grants more ms settled.1)
+
+  pub replaced-settled : (grants more : List Grant) (ms : List Claim) → AllByRecursion (IsSettled grants) ms
+      → replaced_of c (map (with_grants more) ms) ≡ replaced_of c ms
+  replaced-settled grants more [] settled = refl
+  replaced-settled grants more (m ∷ ms) settled =
+      let same : replaced (with_grants more m) ≡ replaced m =
+      ap (λ b. b && is_none (delay_of c (with_grants more m))) (superseded-same more m)
+      ∙ ap (λ (o : Option ℕ). m.superseded && is_none o) (delay-settled c grants more m settled.0) in
+      omega (
+        arith,
+        counted replaced (with_grants more m) (map (with_grants more) ms),
+        counted replaced m ms,
+        ap {B = ℕ} (λ (b : Bool). cond b 1 0) same,
+        replaced-settled grants more ms settled.1,
+      )
+
+  -- a request that supersedes them leaves their delays
+  pub delays-superseded : (ms : List Claim) → delays_of c (map as_superseded ms) ≡ delays_of c ms
+  delays-superseded [] = refl
+  delays-superseded (m ∷ ms) = ap (λ (ds : List ℕ). cons_option (delay_of c m) ds) (delays-superseded ms)
+
+  -- and replaces those that were neither served nor replaced
+  pub replaced-superseded : (ms : List Claim)
+      → replaced_of c (map as_superseded ms) ≡ replaced_of c ms + unserved_of c ms
+  replaced-superseded [] = refl
+  replaced-superseded (m ∷ ms) =
+      omega (
+        arith,
+        counted replaced (as_superseded m) (map as_superseded ms),
+        counted replaced m ms,
+        counted unserved m ms,
+        one m.superseded (is_none (delay_of c m)),
+        replaced-superseded ms,
+      )

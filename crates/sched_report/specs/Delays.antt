@@ -1,31 +1,21 @@
 -- The requests of a flow, the data grants that serve them, and how long that takes.
-use Rattle.std.specs.Prelude.{◌≡◌, ℕ, ◌+◌, ◌-◌, min, max, nat_le, List, [], ◌∷◌, length, count_by, sum_by, filter_map}
-use Rattle.std.specs.Prelude.{Option, None, Some, is_none, option_map, if◌then◌else◌}
+use Rattle.std.specs.Prelude.{◌≡◌, ℕ, ◌+◌, ◌-◌, ◌&&◌, min, max, nat_le, not, Bool, List, [], ◌∷◌, length, count_by}
+use Rattle.std.specs.Prelude.{filter_map, Option, None, Some, is_none, option_map, if◌then◌else◌}
 use Rattle.std.specs.Option.{option_map_or}
 use Rattle.minislots.specs.declared.config.Config.{Config}
 use Rattle.minislots.specs.Units.{slots_for}
-use Rattle.sched_calls.specs.Amount.{requested}
 use Rattle.flow_book.specs.declared.flow.Grant.{Grant}
 use Rattle.flow_book.specs.Flows.{bytes_of}
-use Rattle.sched_report.specs.declared.service.Request.{Request}
-use Rattle.sched_report.specs.declared.service.Waiting.{Waiting}
 use Rattle.sched_report.specs.declared.service.Delays.{Delays}
 use Rattle.sched_report.specs.declared.service.Sums.{Sums}
 
--- the bytes of some requests
-abbrev pub bytes_asked : Config → List Request → ℕ
-bytes_asked c requests = sum_by (λ r. requested c r.amount) requests
-
--- each request with the bytes that its flow asked up to it and with it, where so many were asked before
-abbrev pub marks_from : Config → ℕ → List Request → List Waiting
-marks_from c asked [] = []
-marks_from c asked (r ∷ requests) =
-    record { upto = asked + requested c r.amount; heard = r.heard }
-    ∷ marks_from c (asked + requested c r.amount) requests
-
--- each request with the bytes that its flow asked up to it and with it
-abbrev pub marks_of : Config → List Request → List Waiting
-marks_of c requests = marks_from c 0 requests
+-- A request as it stands in the life of its flow: the bytes that the flow had asked with it, the minislot at which it
+-- was heard, the data grants of the life up to the next request that supersedes those before, and whether there is one
+pub record Claim : Type 0 where
+  pub upto : ℕ
+  pub heard : ℕ
+  pub grants : List Grant
+  pub superseded : Bool
 
 -- the first data grant with which so many bytes are granted
 abbrev pub reaching : ℕ → List Grant → Option Grant
@@ -36,17 +26,21 @@ reaching bytes (g ∷ grants) = if nat_le bytes g.bytes then Some g else reachin
 abbrev pub delay_until : Config → ℕ → Grant → ℕ
 delay_until c heard g = g.start + slots_for c g.bytes - heard
 
--- the delay of a request, where these grants serve it
-abbrev pub delay_of : Config → List Grant → Waiting → Option ℕ
-delay_of c grants mark = option_map (delay_until c mark.heard) (reaching mark.upto grants)
+-- the delay of a request, where a data grant serves it before it is superseded
+abbrev pub delay_of : Config → Claim → Option ℕ
+delay_of c m = option_map (delay_until c m.heard) (reaching m.upto m.grants)
 
 -- the delays of the requests that were served, in the order in which they were asked
-abbrev pub delays_of : Config → List Request → List Grant → List ℕ
-delays_of c requests grants = filter_map (delay_of c grants) (marks_of c requests)
+abbrev pub delays_of : Config → List Claim → List ℕ
+delays_of c claims = filter_map (delay_of c) claims
 
--- how many requests no grant serves
-abbrev pub unserved_of : Config → List Request → List Grant → ℕ
-unserved_of c requests grants = count_by (λ m. is_none (delay_of c grants m)) (marks_of c requests)
+-- how many requests were replaced: superseded before a data grant served them
+abbrev pub replaced_of : Config → List Claim → ℕ
+replaced_of c claims = count_by (λ m. m.superseded && is_none (delay_of c m)) claims
+
+-- how many requests neither were superseded nor did a data grant serve
+abbrev pub unserved_of : Config → List Claim → ℕ
+unserved_of c claims = count_by (λ m. not m.superseded && is_none (delay_of c m)) claims
 
 -- the least of some numbers, where there are any
 abbrev pub least_of : List ℕ → Option ℕ
@@ -64,9 +58,10 @@ pub record AreDelays (d : Delays) (delays : List ℕ) : Type 0 where
   pub least : d.least ≡ least_of delays
   pub greatest : d.greatest ≡ greatest_of delays
 
--- these are the sums of the requests and the grants, and their delays
-pub record AreSums (c : Config) (s : Sums) (requests : List Request) (grants : List Grant) : Type 0 where
-  pub asks : s.asks ≡ length requests
-  pub asked : s.asked ≡ bytes_asked c requests
+-- these are the sums of the requests of a flow that asked so many bytes, and of its data grants
+pub record AreSums (c : Config) (s : Sums) (claims : List Claim) (bytes : ℕ) (grants : List Grant) : Type 0 where
+  pub asks : s.asks ≡ length claims
+  pub asked : s.asked ≡ bytes
   pub granted : s.granted ≡ bytes_of grants
-  pub delays : AreDelays s.delays (delays_of c requests grants)
+  pub replaced : s.replaced ≡ replaced_of c claims
+  pub delays : AreDelays s.delays (delays_of c claims)

@@ -4,6 +4,7 @@ pub mod Totals
 pub mod Counted
 pub mod Reported
 pub mod Delays
+pub mod Requests
 pub mod Spread
 pub mod Steps
 pub mod Served

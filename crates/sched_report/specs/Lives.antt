@@ -1,24 +1,38 @@
--- The lives of flows in a history, in the order of their admissions, and what belongs to each.
-use Rattle.std.specs.Prelude.{ℕ, ◌==◌, Bool, true, false, List, [], ◌∷◌, ◌++◌, filter_map}
-use Rattle.std.specs.Prelude.{Option, None, Some, is_some, if◌then◌else◌}
+-- The lives of flows in a history, in the order of their admissions.
+use Rattle.std.specs.Prelude.{ℕ, Bool, true, List, [], ◌∷◌, ◌++◌}
+use Rattle.std.specs.Prelude.{Option, None, Some, is_some, option_map, if◌then◌else◌}
+use Rattle.std.specs.List.{list_any}
+use Rattle.std.specs.Option.{option_map_or}
 use Rattle.sched_calls.specs.declared.spec.FlowSpec.{FlowSpec}
 use Rattle.sched_calls.specs.declared.call.Call.{Call}
 use Rattle.sched_calls.specs.declared.call.Call.TheVariants as calls
 use Rattle.sched_calls.specs.declared.reply.Reply.{Reply}
 use Rattle.sched_calls.specs.declared.reply.Reply.TheVariants as replies
 use Rattle.sched_calls.specs.declared.reply.Entry.{Entry}
-use Rattle.sched_history.specs.Life.{turn_of}
+use Rattle.sched_history.specs.Latest.{latest}
+use Rattle.sched_history.specs.Life.{turn_of, change_by}
 use Rattle.sched_report.specs.declared.lives.Opening.{Opening}
-use Rattle.sched_report.specs.declared.service.Request.{Request}
 
--- A life of a flow: its SID and parameters, the entries up to its admission, those after it up to its end, and whether
--- it ended
+-- A life of a flow: its SID, the parameters with which it was admitted, the entries up to its admission, those after it
+-- up to its end, and whether it ended
 pub record PastLife : Type 0 where
   pub sid : ℕ
-  pub spec : FlowSpec
+  pub first : FlowSpec
   pub upto : List Entry
   pub since : List Entry
   pub ended : Bool
+
+-- the parameters that an accepted change of this SID gives
+abbrev pub new_spec : ℕ → Call → Reply → Option FlowSpec
+new_spec sid call reply = option_map (λ given. given.spec) (change_by sid call reply)
+
+-- the parameters of a flow that was admitted with these, after these entries of its life: those of its latest change
+abbrev pub spec_after : ℕ → FlowSpec → List Entry → FlowSpec
+spec_after sid first es = option_map_or (λ found. found.said) (latest (λ e. new_spec sid e.call e.reply) es) first
+
+-- the parameters with which a life ended, or which it has
+abbrev pub spec_of : PastLife → FlowSpec
+spec_of life = spec_after life.sid life.first life.since
 
 -- the SID and the parameters of an accepted admission
 abbrev pub opening_by : Call → Reply → Option Opening
@@ -29,25 +43,21 @@ opening_by call reply = None
 abbrev pub is_turn : ℕ → Entry → Bool
 is_turn sid e = is_some (turn_of sid e)
 
--- the entries up to the next admission or removal of this SID
-abbrev pub until_turn : ℕ → List Entry → List Entry
-until_turn sid [] = []
-until_turn sid (e ∷ es) = if is_turn sid e then [] else e ∷ until_turn sid es
+-- the entries up to the next one that passes a test
+abbrev pub until : (Entry → Bool) → List Entry → List Entry
+until test [] = []
+until test (e ∷ es) = if test e then [] else e ∷ until test es
 
--- whether there is one
-abbrev pub has_turn : ℕ → List Entry → Bool
-has_turn sid [] = false
-has_turn sid (e ∷ es) = if is_turn sid e then true else has_turn sid es
-
--- the life that begins behind these entries, where one does, with those that follow
+-- the life that begins behind these entries, where one does, with those that follow: it ends at the next admission or
+-- removal of its SID
 abbrev pub life_begun : List Entry → Option Opening → List Entry → List PastLife
 life_begun upto None es = []
 life_begun upto (Some o) es = record {
   sid = o.sid;
-  spec = o.spec;
+  first = o.spec;
   upto = upto;
-  since = until_turn o.sid es;
-  ended = has_turn o.sid es;
+  since = until (is_turn o.sid) es;
+  ended = list_any (is_turn o.sid) es;
 } ∷ []
 
 -- the lives that begin in entries which stand behind others
@@ -67,19 +77,10 @@ with_entry e life =
     else if is_turn life.sid e then record life { ended = true }
     else record life { since = life.since ++ e ∷ [] }
 
--- the accepted request of this SID that an entry is
-abbrev pub request_by : ℕ → Call → Reply → Option Request
-request_by sid (calls.Ask receiver other amount heard) replies.Taken =
-    if other == sid then Some (record { amount = amount; heard = heard }) else None
-request_by sid call reply = None
-
--- the accepted requests of this SID in these entries, in order
-abbrev pub requests_in : ℕ → List Entry → List Request
-requests_in sid es = filter_map (λ e. request_by sid e.call e.reply) es
-
 -- the entry is an accepted request, of whichever SID
 abbrev pub IsRequest : Call → Reply → Type 0
 IsRequest (calls.Ask receiver sid amount heard) replies.Taken = Unit {0}
+IsRequest (calls.Replace receiver sid amount heard) replies.Taken = Unit {0}
 IsRequest call reply = ⊥
 
 -- the entry begins a life, of whichever SID

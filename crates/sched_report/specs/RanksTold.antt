@@ -12,8 +12,8 @@ abbrev pub ranks_served : List ℕ
 ranks_served = 8 ∷ 7 ∷ 6 ∷ 5 ∷ 4 ∷ 3 ∷ 2 ∷ 1 ∷ 0 ∷ []
 
 -- whether a flow of this rank has asked
-abbrev pub has_asked : List Entry → ℕ → Bool
-has_asked h rank = nat_lt 0 (asks_among (lives_of_rank rank (lives_of h)))
+abbrev pub has_asked : Config → List Entry → ℕ → Bool
+has_asked c h rank = nat_lt 0 (asks_among c (lives_of_rank rank (lives_of h)))
 
 -- the numbers of a rank are those of its lives
 abbrev pub IsRankTold : Config → List Entry → RankTold → Type 0
@@ -21,5 +21,5 @@ IsRankTold c h told = AreRankNumbers c told.numbers (lives_of_rank told.rank (li
 
 -- The ranks are those that asked, in the order in which they are served, each with its numbers
 pub record AreRanksTold (c : Config) (h : List Entry) (told : List RankTold) : Type 0 where
-  pub those : map (λ t. t.rank) told ≡ filter (has_asked h) ranks_served
+  pub those : map (λ t. t.rank) told ≡ filter (has_asked c h) ranks_served
   pub each : AllByRecursion (IsRankTold c h) told

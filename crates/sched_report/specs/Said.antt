@@ -1,5 +1,5 @@
--- What is said of a life: its requests that wait or were dropped, and what it was granted.
-use Rattle.std.specs.Prelude.{ℕ, ◌-◌, ◌*◌, ◌==◌, ◌&&◌, Bool, true, List, count_by, sum_by}
+-- What is said of a life: its requests that wait, were dropped or were replaced, and what it was granted.
+use Rattle.std.specs.Prelude.{ℕ, ◌+◌, ◌-◌, ◌==◌, ◌&&◌, Bool, true, List, [], ◌∷◌, ◌++◌, sum_by}
 use Rattle.std.specs.Prelude.{Option, None, Some, if◌then◌else◌}
 use Rattle.minislots.specs.declared.config.Config.{Config}
 use Rattle.map_drawing.specs.declared.allocation.Allocation.{Allocation}
@@ -11,18 +11,27 @@ use Rattle.sched_calls.specs.declared.frame_map.FrameMap.{FrameMap}
 use Rattle.sched_calls.specs.declared.reply.Reply.{Reply}
 use Rattle.sched_calls.specs.declared.reply.Reply.TheVariants as replies
 use Rattle.sched_calls.specs.declared.reply.Entry.{Entry}
-use Rattle.sched_history.specs.Life.{grants_since}
-use Rattle.sched_report.specs.Delays.{bytes_asked, delays_of, unserved_of}
-use Rattle.sched_report.specs.Lives.{PastLife, requests_in}
+use Rattle.sched_history.specs.Life.{asked_in, grants_since}
+use Rattle.sched_report.specs.Delays.{Claim, delays_of, replaced_of, unserved_of}
+use Rattle.sched_report.specs.Lives.{PastLife, spec_after, spec_of}
+use Rattle.sched_report.specs.Requests.{claims_in}
 use Rattle.sched_report.specs.Uses.{use_of, is_unsolicited}
 
--- the delays of the requests of a life that were served
-abbrev pub delays_in : Config → PastLife → List ℕ
-delays_in c life = delays_of c (requests_in life.sid life.since) (grants_since life.sid life.since)
+-- the requests of a life
+abbrev pub claims_of : Config → PastLife → List Claim
+claims_of c life = claims_in c life.sid life.since
 
--- how many requests of a life no data grant served
+-- the delays of those that were served
+abbrev pub delays_in : Config → PastLife → List ℕ
+delays_in c life = delays_of c (claims_of c life)
+
+-- how many of them were replaced
+abbrev pub replaced_in : Config → PastLife → ℕ
+replaced_in c life = replaced_of c (claims_of c life)
+
+-- how many no data grant served, and no request superseded
 abbrev pub unserved_in : Config → PastLife → ℕ
-unserved_in c life = unserved_of c (requests_in life.sid life.since) (grants_since life.sid life.since)
+unserved_in c life = unserved_of c (claims_of c life)
 
 -- they wait while it lives
 abbrev pub waiting_in : Config → PastLife → ℕ
@@ -34,39 +43,47 @@ dropped_in c life = if life.ended then unserved_in c life else 0
 
 -- the bytes that were asked and not granted
 abbrev pub outstanding_in : Config → PastLife → ℕ
-outstanding_in c life =
-    bytes_asked c (requests_in life.sid life.since) - bytes_of (grants_since life.sid life.since)
+outstanding_in c life = asked_in c life.sid life.since - bytes_of (grants_since life.sid life.since)
 
 -- whether an allocation is an unsolicited grant to the unsolicited flow that lives under this SID
 abbrev pub is_grant_to : ℕ → Allocation → Bool
 is_grant_to sid a = a.sid == sid && is_unsolicited (use_of a.sid a.iuc true)
 
--- how many unsolicited grants a MAP has to a flow with these parameters: none to one that is not unsolicited
+-- the bytes of an allocation, where it is an unsolicited grant to a flow with these parameters, which lives under this
+-- SID: as many as it has now
+abbrev pub unsolicited_at : FlowSpec → ℕ → Allocation → ℕ
+unsolicited_at (flows.Unsolicited size interval jitter grants) sid a = if is_grant_to sid a then size else 0
+unsolicited_at (flows.Polled interval jitter rate burst) sid a = 0
+unsolicited_at (flows.BestEffort priority rate burst) sid a = 0
+
+-- the bytes of the unsolicited grants that a MAP has to it
 abbrev pub unsolicited_of_map : FlowSpec → ℕ → FrameMap → ℕ
-unsolicited_of_map (flows.Unsolicited size interval jitter grants) sid m =
-    count_by (is_grant_to sid) (allocations_of m.wire.elements)
-unsolicited_of_map (flows.Polled interval jitter rate burst) sid m = 0
-unsolicited_of_map (flows.BestEffort priority rate burst) sid m = 0
+unsolicited_of_map spec sid m = sum_by (unsolicited_at spec sid) (allocations_of m.wire.elements)
 
 -- and a reply
 abbrev pub unsolicited_by : FlowSpec → ℕ → Reply → ℕ
 unsolicited_by spec sid (replies.Built m) = unsolicited_of_map spec sid m
 unsolicited_by spec sid reply = 0
 
--- and these entries
-abbrev pub unsolicited_in : FlowSpec → ℕ → List Entry → ℕ
-unsolicited_in spec sid es = sum_by (λ e. unsolicited_by spec sid e.reply) es
+-- and entries of a life that stand behind others, each with the parameters that the flow has there
+abbrev pub unsolicited_after : ℕ → FlowSpec → List Entry → List Entry → ℕ
+unsolicited_after sid first before [] = 0
+unsolicited_after sid first before (e ∷ es) =
+    unsolicited_by (spec_after sid first before) sid e.reply + unsolicited_after sid first (before ++ e ∷ []) es
 
--- the bytes of so many unsolicited grants to a flow, or else of its data grants
+-- the bytes of the unsolicited grants of a life
+abbrev pub unsolicited_in : PastLife → ℕ
+unsolicited_in life = unsolicited_after life.sid life.first [] life.since
+
+-- the bytes of the unsolicited grants of a flow, or else of its data grants
 abbrev pub granted_under : FlowSpec → ℕ → ℕ → ℕ
-granted_under (flows.Unsolicited size interval jitter grants) unsolicited bytes = size * unsolicited
+granted_under (flows.Unsolicited size interval jitter grants) unsolicited bytes = unsolicited
 granted_under (flows.Polled interval jitter rate burst) unsolicited bytes = bytes
 granted_under (flows.BestEffort priority rate burst) unsolicited bytes = bytes
 
 -- the bytes that a life was granted
 abbrev pub granted_in : PastLife → ℕ
-granted_in life = granted_under life.spec (unsolicited_in life.spec life.sid life.since)
-    (bytes_of (grants_since life.sid life.since))
+granted_in life = granted_under (spec_of life) (unsolicited_in life) (bytes_of (grants_since life.sid life.since))
 
 -- the priority of a best effort flow
 abbrev pub priority_of : FlowSpec → Option ℕ

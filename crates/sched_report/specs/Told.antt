@@ -3,60 +3,56 @@ use Rattle.std.specs.Prelude.{◌≡◌, ℕ, ◌*◌, ◌<◌, ◌≤◌, ◌^�
 use Rattle.std.specs.Prelude.{if◌then◌else◌}
 use Rattle.minislots.specs.declared.config.Config.{Config}
 use Rattle.minislots.specs.Config.{IsLawful}
-use Rattle.sched_calls.specs.Amount.{requested}
 use Rattle.flow_book.specs.declared.flow.Grant.{Grant}
 use Rattle.flow_book.specs.Flows.{bytes_of}
 use Rattle.sched_calls.specs.declared.frame_map.FrameMap.{FrameMap}
 use Rattle.sched_calls.specs.declared.reply.Reply.TheVariants.{Built}
 use Rattle.sched_calls.specs.declared.reply.Entry.{Entry}
 use Rattle.sched_calls.specs.declared.reply.TheConstants.{MAX_WHOLE_HISTORY}
-use Rattle.sched_history.specs.Life.{grants_since}
+use Rattle.sched_history.specs.Life.{asked_in, grants_since}
 use Rattle.sched_history.specs.Facts.{IsOrderly}
 use Rattle.sched_history.specs.Time.{next_after}
-use Rattle.sched_report.specs.declared.service.Request.{Request}
 use Rattle.sched_report.specs.declared.service.Service.{Service}
 use Rattle.sched_report.specs.declared.life.LifeTally.{LifeTally}
-use Rattle.sched_report.specs.Delays.{bytes_asked}
-use Rattle.sched_report.specs.Served.{IsServiceOf, HasRoom}
-use Rattle.sched_report.specs.Lives.{PastLife, is_turn, request_by, requests_in}
+use Rattle.sched_report.specs.Delays.{Claim}
+use Rattle.sched_report.specs.Served.{IsServiceOf, IsServiceAfter, HasRoom}
+use Rattle.sched_report.specs.Lives.{PastLife, is_turn, spec_of}
 use Rattle.sched_report.specs.Said.{unsolicited_in}
 
 -- What is told is of this life: it lived from the next frame at its admission to the next frame at its end, and asked
 -- and was granted what the entries in between have
 pub record IsLifeOf (c : Config) (t : LifeTally) (life : PastLife) : Type 0 where
   pub sid : t.sid ≡ life.sid
-  pub spec : t.spec ≡ life.spec
+  pub spec : t.spec ≡ spec_of life
   pub from : t.from ≡ next_after c life.upto
   pub to : t.to ≡ (if life.ended then Some (next_after c (life.upto ++ life.since)) else None)
-  pub service : IsServiceOf c t.service (requests_in life.sid life.since) (grants_since life.sid life.since)
+  pub service : IsServiceAfter c t.service life.sid life.since
   pub few : length life.since ≤ MAX_WHOLE_HISTORY
-  pub unsolicited : t.unsolicited ≡ unsolicited_in life.spec life.sid life.since
-  pub bounded : t.unsolicited ≤ 240 * length life.since
+  pub unsolicited : t.unsolicited ≡ unsolicited_in life
+  pub bounded : t.unsolicited ≤ 240 * 2 ^ 32 * length life.since
 
 -- there is room for one request more
 abbrev pub HasRoomFor : LifeTally → Type 0
 HasRoomFor t = HasRoom t.service
 
--- The entry may follow a life that has not ended: the next frame starts there, it asks for bytes if it asks, and no
--- more is granted than was asked
+-- The entry may follow a life that has not ended: the next frame starts there, and no more is granted than was asked
 pub record MayNote (c : Config) (life : PastLife) (slot : ℕ) (e : Entry) : Type 0 where
   pub lawful : IsLawful c
   pub few : length life.since < MAX_WHOLE_HISTORY
   pub next : life.ended ≡ false → slot ≡ next_after c (life.upto ++ life.since)
-  pub some : (r : Request) → request_by life.sid e.call e.reply ≡ Some r → 0 < requested c r.amount
   pub within : life.ended ≡ false → is_turn life.sid e ≡ false
-      → (bytes_of (grants_since life.sid (life.since ++ e ∷ []))
-      ≤ bytes_asked c (requests_in life.sid (life.since ++ e ∷ [])))
-      × (bytes_asked c (requests_in life.sid (life.since ++ e ∷ [])) < 2 ^ 64)
+      → (bytes_of (grants_since life.sid (life.since ++ e ∷ [])) ≤ asked_in c life.sid (life.since ++ e ∷ []))
+      × (asked_in c life.sid (life.since ++ e ∷ []) < 2 ^ 64)
   pub start : (m : FrameMap) → e.reply ≡ Built m → m.start < 2 ^ 62
   pub orderly : (m : FrameMap) → e.reply ≡ Built m → IsOrderly c m
 
 -- These data grants may be counted: their bytes were asked
 pub record MayGrantAll (c : Config) (s : Service) (more : List Grant) : Type 0 where
-  pub requests : List Request
+  pub claims : List Claim
+  pub bytes : ℕ
   pub grants : List Grant
-  pub is : IsServiceOf c s requests grants
+  pub is : IsServiceOf c s claims bytes grants
   pub lawful : IsLawful c
-  pub few : length requests ≤ 2 ^ 44
-  pub fits : bytes_asked c requests < 2 ^ 64
-  pub within : bytes_of (grants ++ more) ≤ bytes_asked c requests
+  pub few : length claims ≤ 2 ^ 44
+  pub fits : bytes < 2 ^ 64
+  pub within : bytes_of (grants ++ more) ≤ bytes

@@ -8,7 +8,7 @@ use Rattle.sched_calls.specs.declared.reply.Reply.{Reply}
 use Rattle.sched_calls.specs.declared.reply.Reply.TheVariants.{Built}
 use Rattle.sched_calls.specs.declared.reply.Entry.{Entry}
 use Rattle.sched_calls.specs.declared.reply.TheConstants.{MAX_WHOLE_HISTORY}
-use Rattle.sched_history.specs.Life.{grants_since}
+use Rattle.sched_history.specs.Life.{asked_in, grants_since}
 use Rattle.sched_history.specs.Facts.{IsOrderly}
 use Rattle.sched_history.specs.History.{IsStep, IsLegal}
 use Rattle.sched_history.specs.Machine.{MayLackMemory}
@@ -16,9 +16,10 @@ use Rattle.sched_history.specs.Time.{next_after}
 use Rattle.sched_report.specs.declared.life.LifeTally.{LifeTally}
 use Rattle.sched_report.specs.declared.life.LifeNumbers.{LifeNumbers}
 use Rattle.sched_report.specs.Delays.{AreSums}
-use Rattle.sched_report.specs.Lives.{PastLife, lives_of, requests_in, IsRequest, IsOpening}
+use Rattle.sched_report.specs.Lives.{PastLife, spec_of, lives_of, IsRequest, IsOpening}
 use Rattle.sched_report.specs.Spread.{TellsPercentile}
-use Rattle.sched_report.specs.Said.{delays_in, priority_of, granted_in, outstanding_in, waiting_in, dropped_in}
+use Rattle.sched_report.specs.Said.{claims_of, delays_in, priority_of, granted_in, outstanding_in}
+use Rattle.sched_report.specs.Said.{waiting_in, dropped_in}
 use Rattle.sched_report.specs.Told.{IsLifeOf, MayNote}
 
 -- What is told is of these lives, each at its place
@@ -58,12 +59,12 @@ pub record MayFollow (c : Config) (h : List Entry) (ts : List LifeTally) (slot :
 -- 50 and 99 in a hundred of those that were served do not exceed
 pub record AreLifeNumbers (c : Config) (n : LifeNumbers) (life : PastLife) : Type 0 where
   pub sid : n.sid ≡ life.sid
-  pub spec : n.spec ≡ life.spec
+  pub spec : n.spec ≡ spec_of life
   pub from : n.from ≡ next_after c life.upto
   pub to : n.to ≡ next_after c (life.upto ++ life.since)
   pub ended : n.ended ≡ life.ended
-  pub priority : n.priority ≡ priority_of life.spec
-  pub sums : AreSums c n.sums (requests_in life.sid life.since) (grants_since life.sid life.since)
+  pub priority : n.priority ≡ priority_of (spec_of life)
+  pub sums : AreSums c n.sums (claims_of c life) (asked_in c life.sid life.since) (grants_since life.sid life.since)
   pub granted : n.granted ≡ granted_in life
   pub outstanding : n.outstanding ≡ outstanding_in c life
   pub waiting : n.waiting ≡ waiting_in c life

@@ -1,16 +1,17 @@
 -- The numbers of a whole history.
-use Rattle.std.specs.Prelude.{◌≡◌, ℕ, ◌+◌, ◌*◌, ◌^◌, ◌≤◌, Bool, true, false, List, [], ◌∷◌, length, count_by, slice_get}
-use Rattle.std.specs.Prelude.{Option, None, Some, option_map}
+use Rattle.std.specs.Prelude.{◌≡◌, ℕ, ◌+◌, ◌*◌, ◌^◌, ◌≤◌, ◌&&◌, Bool, true, false, List, [], ◌∷◌}
+use Rattle.std.specs.Prelude.{length, count_by, slice_get, Option, None, Some, option_map}
 use Rattle.std.specs.Option.{option_or}
 use Rattle.minislots.specs.declared.config.Config.{Config}
 use Rattle.sched_calls.specs.declared.reply.Entry.{Entry}
+use Rattle.sched_calls.specs.declared.call.Call.{Call}
 use Rattle.sched_calls.specs.declared.reply.Reply.{Reply}
-use Rattle.sched_calls.specs.declared.reply.Reply.TheVariants.{Skipped}
+use Rattle.sched_calls.specs.declared.reply.Reply.TheVariants.{Skipped, Taken}
 use Rattle.sched_history.specs.Facts.{maps_of}
 use Rattle.sched_calls.specs.declared.frame_map.FrameMap.{FrameMap}
 use Rattle.sched_report.specs.declared.slots.Slots.{Slots}
 use Rattle.sched_report.specs.declared.totals.Totals.{Totals}
-use Rattle.sched_report.specs.Counts.{calls_of}
+use Rattle.sched_report.specs.Counts.{is_replace, calls_of}
 use Rattle.sched_report.specs.Uses.{slots_of, sum_of, all_slots}
 
 -- the last member of a list
@@ -24,14 +25,24 @@ abbrev pub is_skip_answer : Reply → Bool
 is_skip_answer (Skipped next) = true
 is_skip_answer reply = false
 
--- the numbers of a history: its frames, where the first starts and the last ends, how often frames were left out, the
--- calls by their kind, and the minislots of the frames by their use
+-- whether a request was accepted
+abbrev pub is_taken : Reply → Bool
+is_taken Taken = true
+is_taken reply = false
+
+-- whether an entry is an accepted request that supersedes those before, of whichever SID
+abbrev pub is_replacement : Call → Reply → Bool
+is_replacement call reply = is_replace call && is_taken reply
+
+-- the numbers of a history: its frames, where the first starts and the last ends, how often frames were left out and
+-- requests were superseded, the calls by their kind, and the minislots of the frames by their use
 abbrev pub totals_of : Config → List Entry → Totals
 totals_of c h = record {
   frames = length (maps_of h);
   from = option_map (λ m. m.start) (slice_get (maps_of h) 0);
   to = option_map (λ m. m.start + c.frame) (last_of (maps_of h));
   skips = count_by (λ e. is_skip_answer e.reply) h;
+  replaces = count_by (λ e. is_replacement e.call e.reply) h;
   calls = calls_of h;
   slots = slots_of h;
 }

@@ -9,7 +9,7 @@ use sched_history::{Call, Entry, Reply};
 use sched_lines::refusal_number;
 
 /// How many numbers a refusal may have: they are counted from 1.
-pub const REFUSALS: usize = 20;
+pub const REFUSALS: usize = 23;
 
 /// How many calls of each kind there were, refused ones among them.
 #[derive(Clone, Copy)]
@@ -20,18 +20,26 @@ pub struct Calls {
     pub ask: u64,
     /// Builds of MAPs.
     pub build: u64,
+    /// Changes of the parameters of a flow.
+    pub change: u64,
     /// Headers of the MAPs that follow.
     pub header: u64,
     /// Notices of the minislot before which a receiver has handed in all that it heard.
     pub heard: u64,
     /// Removals of flows.
     pub remove: u64,
+    /// Requests that supersede those before.
+    pub replace: u64,
     /// Reserves of opportunities.
     pub reserve: u64,
+    /// Calls that let an unsolicited flow rest.
+    pub rest: u64,
     /// Calls that leave out the frames whose MAP would be late.
     pub skip: u64,
     /// Questions for the bytes of a flow.
     pub status: u64,
+    /// Calls that give an unsolicited flow its grants again.
+    pub wake: u64,
 }
 
 impl Calls {
@@ -43,12 +51,16 @@ impl Calls {
             admit: 0,
             ask: 0,
             build: 0,
+            change: 0,
             header: 0,
             heard: 0,
             remove: 0,
+            replace: 0,
             reserve: 0,
+            rest: 0,
             skip: 0,
             status: 0,
+            wake: 0,
         }
     }
 
@@ -62,12 +74,16 @@ impl Calls {
             Call::Admit(..) => self.admit += 1,
             Call::Ask { .. } => self.ask += 1,
             Call::Build { .. } => self.build += 1,
+            Call::Change(..) => self.change += 1,
             Call::Header(_) => self.header += 1,
             Call::Heard { .. } => self.heard += 1,
             Call::Remove(_) => self.remove += 1,
+            Call::Replace { .. } => self.replace += 1,
             Call::Reserve { .. } => self.reserve += 1,
+            Call::Rest(_) => self.rest += 1,
             Call::Skip { .. } => self.skip += 1,
             Call::Status(_) => self.status += 1,
+            Call::Wake(_) => self.wake += 1,
         }
     }
 }

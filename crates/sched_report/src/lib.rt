@@ -9,6 +9,7 @@ mod percentiles;
 mod ranks;
 mod ranks_told;
 mod reporter;
+mod requests;
 mod service;
 mod slots;
 mod spread;

@@ -1,28 +1,31 @@
 //! One life of a flow: what it asked and was granted, and from when to when it lived.
 
-ghost use Rattle.std.specs.Prelude.{◌≡◌, ◌+◌, ◌<◌, ◌≤◌, ◌^◌, ◌++◌, [], List, false};
+ghost use Rattle.std.specs.Prelude.{◌≡◌, ◌+◌, ◌*◌, ◌<◌, ◌≤◌, ◌^◌, ◌++◌, ◌∷◌, [], List, ℕ, map, false};
 ghost use Rattle.std.specs.Prelude.{None, Some, is_some, IfSome, OnOk};
 ghost use Rattle.std.specs.List.{cons_option};
+ghost use Rattle.std.specs.Option.{option_map_or};
 ghost use Rattle.minislots.specs.declared.config.Config.{Config};
 ghost use Rattle.flow_book.specs.declared.flow.Grant.{Grant as DataGrant};
 ghost use Rattle.sched_calls.specs.declared.reply.Entry.{Entry as Recorded};
-ghost use Rattle.sched_history.specs.Life.{grant_by, grants_since};
+ghost use Rattle.sched_history.specs.Life.{asked_in, grant_by, grants_since};
 ghost use Rattle.sched_history.specs.Time.{next_after};
 ghost use Rattle.sched_report.specs.declared.service.Request.{Request as Asked};
-ghost use Rattle.sched_report.specs.Served.{IsServiceOf};
-ghost use Rattle.sched_report.specs.Delays.{AreSums};
-ghost use Rattle.sched_report.specs.Lives.{PastLife, is_turn, request_by, requests_in, with_entry};
+ghost use Rattle.sched_report.specs.Served.{IsServiceOf, with_grants};
+ghost use Rattle.sched_report.specs.Delays.{Claim, AreSums};
+ghost use Rattle.sched_report.specs.Lives.{PastLife, is_turn, new_spec, spec_of, with_entry};
+ghost use Rattle.sched_report.specs.Requests.{request_by};
 ghost use Rattle.sched_report.specs.Ranks.{is_of_rank, is_chosen};
-ghost use Rattle.sched_report.specs.Said.{delays_in, priority_of, granted_in, waiting_in, dropped_in};
+ghost use Rattle.sched_report.specs.Said.{claims_of, delays_in, priority_of, granted_in, waiting_in, dropped_in};
 ghost use Rattle.sched_report.specs.Named.{HasNoMap};
-ghost use Rattle.sched_report.specs.Granted.{HasMore, is_unsolicited_to, unsolicited_at};
+ghost use Rattle.sched_report.specs.Granted.{HasMore};
 ghost use Rattle.sched_report.specs.Steps.{CountsUpto};
-ghost use Rattle.sched_report.specs.Said.{is_grant_to};
+ghost use Rattle.sched_report.specs.Said.{is_grant_to, unsolicited_at};
 ghost use Rattle.sched_report.specs.Told.{IsLifeOf, MayNote, MayGrantAll, HasRoomFor};
 ghost use Rattle.sched_report.specs.ToldLives.{AreLifeNumbers};
 
 use crate::percentiles::percentile;
-use crate::service::{Request, Service, Sums};
+use crate::requests::{note_request, request_of};
+use crate::service::{Service, Sums};
 use crate::slots::Use;
 use flow_book::{FlowSpec, Grant};
 use map_codec::Element;
@@ -40,7 +43,7 @@ pub const POLLED: u8 = 8;
 pub struct LifeNumbers {
     /// The SID under which it lived.
     pub sid: u16,
-    /// Its parameters.
+    /// Its parameters: those of its last change, or else those with which it was admitted.
     pub spec: FlowSpec,
     /// The minislot at which the next frame started when it was admitted.
     pub from: u64,
@@ -52,7 +55,8 @@ pub struct LifeNumbers {
     pub priority: Option<u8>,
     /// Its requests, its data grants, and the delays of the requests that were served.
     pub sums: Sums,
-    /// The bytes that it was granted: those of its data grants, or of an unsolicited flow its size for each grant.
+    /// The bytes that it was granted: those of its data grants, or of an unsolicited flow those of each unsolicited
+    /// grant, as many as its parameters said when the MAP was built.
     pub granted: u128,
     /// The bytes that were asked and not granted.
     pub outstanding: u64,
@@ -75,7 +79,7 @@ pub(crate) struct LifeTally {
     from: u64,
     to: Option<u64>,
     service: Service,
-    // How many unsolicited grants it had.
+    // The bytes of the unsolicited grants that it had.
     unsolicited: u128,
 }
 
@@ -84,7 +88,7 @@ impl LifeTally {
     pub(crate) fn begin(alloc: Global, sid: u16, spec: FlowSpec, from: u64) -> LifeTally
         ensures life { (c : Config) (upto : List Recorded) → from ≡ next_after c upto
             → IsLifeOf c result
-            (record { sid = sid; spec = spec; upto = upto; since = []; ended = false }) }
+            (record { sid = sid; first = spec; upto = upto; since = []; ended = false }) }
         ensures sid { result.sid ≡ sid }
     {
         LifeTally {
@@ -129,8 +133,8 @@ impl LifeTally {
     pub(crate) fn sums(&self) -> Sums
         requires { (c : Config) × (life : PastLife) × IsLifeOf c self.now life }
         ensures sums { (c : Config) (life : PastLife) → IsLifeOf c self.now life
-            → AreSums c result
-            (requests_in life.sid life.since) (grants_since life.sid life.since) }
+            → AreSums c result (claims_of c life)
+            (asked_in c life.sid life.since) (grants_since life.sid life.since) }
         ensures few { result.delays.served ≤ 2 ^ 44 }
     {
         self.service.sums()
@@ -149,7 +153,7 @@ impl LifeTally {
     // Whether it is one of a rank, or whether it is one at all where no rank is named.
     pub(crate) fn is_chosen(&self, rank: Option<u8>) -> bool
         ensures { (c : Config) (life : PastLife) → IsLifeOf c self.now life
-            → result ≡ is_chosen rank life.spec }
+            → result ≡ is_chosen rank (spec_of life) }
     {
         match rank {
             Some(rank) => is_of_rank(self.spec, rank),
@@ -165,7 +169,7 @@ impl LifeTally {
         ensures few { result < 2 ^ 90 }
     {
         match self.spec {
-            FlowSpec::Unsolicited { size, .. } => u128::from(size) * self.unsolicited,
+            FlowSpec::Unsolicited { .. } => self.unsolicited,
             _ => u128::from(self.service.granted()),
         }
     }
@@ -193,15 +197,15 @@ impl LifeTally {
     }
 
     // Takes memory for the request that an entry is, where it is one of this SID. What is told stays.
-    pub(crate) fn reserve_for(&mut self, entry: &Entry) -> Result<(), AllocError>
+    pub(crate) fn reserve_for(&mut self, config: &Checked, entry: &Entry) -> Result<(), AllocError>
         ensures ok { OnOk result
-            ((r : Asked) → request_by self.new.sid entry.now.call entry.now.reply ≡ Some r
+            ((r : Asked) → request_by config.now self.new.sid entry.now.call entry.now.reply ≡ Some r
             → HasRoomFor self.new) }
         ensures same { (c : Config) (life : PastLife) → IsLifeOf c self.old life
             → IsLifeOf c self.new life }
         ensures unmoved { self.new ≡ record self.old { service = self.new.service } }
     {
-        if request_of(self.sid, entry).is_none() {
+        if request_of(config, self.sid, entry).is_none() {
             return Ok(());
         }
         self.service.reserve()
@@ -212,7 +216,7 @@ impl LifeTally {
         requires may { (life : PastLife) × IsLifeOf config.now self.old life
             × MayNote config.now life next entry.now }
         requires room { self.old.to ≡ None → (r : Asked)
-            → request_by self.old.sid entry.now.call entry.now.reply ≡ Some r
+            → request_by config.now self.old.sid entry.now.call entry.now.reply ≡ Some r
             → HasRoomFor self.old }
         requires unbuilt { HasNoMap entry.now.reply }
         ensures life { (life : PastLife) → IsLifeOf config.now self.old life
@@ -228,9 +232,8 @@ impl LifeTally {
             self.to = Some(next);
             return;
         }
-        if let Some(request) = request_of(self.sid, entry) {
-            self.service.ask(config, request);
-        }
+        note_request(&mut self.service, config, self.sid, entry);
+        self.spec = spec_with(self.spec, self.sid, entry);
     }
 
     // Counts an element with this byte count, in a MAP that starts there, where it is a data grant to this life.
@@ -239,7 +242,7 @@ impl LifeTally {
         requires granted { self.old.to ≡ None → MayGrantAll config.now self.old.service
             (cons_option (grant_by self.old.sid start (element, bytes)) []) }
         ensures { HasMore config.now (cons_option (grant_by self.old.sid start (element, bytes)) [])
-            0 self.old self.new }
+            0 0 self.old self.new }
     {
         if self.to.is_some() {
             return;
@@ -247,19 +250,16 @@ impl LifeTally {
         grant_element(&mut self.service, config, self.sid, start, element, bytes);
     }
 
-    // Counts an allocation, where it is an unsolicited grant to this life.
+    // Counts the bytes of an allocation, where it is an unsolicited grant to this life.
     pub(crate) fn count_grant(&mut self, allocation: Allocation)
-        requires { self.old.to ≡ None → self.old.unsolicited + 1 ≤ 2 ^ 100 }
-        ensures { (c : Config) → HasMore c []
+        requires { self.old.to ≡ None → self.old.unsolicited + 2 ^ 32 ≤ 2 ^ 100 }
+        ensures { (c : Config) → HasMore c [] 1
             (unsolicited_at self.old.spec self.old.sid allocation) self.old self.new }
     {
-        if !is_unsolicited_to(self.spec, self.sid, allocation) {
-            return;
-        }
         if self.to.is_some() {
             return;
         }
-        self.unsolicited += 1;
+        self.unsolicited += u128::from(unsolicited_at(self.spec, self.sid, allocation));
     }
 }
 
@@ -284,13 +284,14 @@ fn is_of_rank(spec: FlowSpec, rank: u8) -> bool
     }
 }
 
-// Whether an allocation is an unsolicited grant to a flow with these parameters, which lives under this SID.
-fn is_unsolicited_to(spec: FlowSpec, sid: u16, allocation: Allocation) -> bool
-    ensures { result ≡ is_unsolicited_to spec sid allocation }
+// The bytes of an allocation, where it is an unsolicited grant to a flow with these parameters, which lives under this
+// SID.
+fn unsolicited_at(spec: FlowSpec, sid: u16, allocation: Allocation) -> u32
+    ensures { result ≡ unsolicited_at spec sid allocation }
 {
     match spec {
-        FlowSpec::Unsolicited { .. } => is_grant_to(sid, allocation),
-        _ => false,
+        FlowSpec::Unsolicited { size, .. } if is_grant_to(sid, allocation) => size,
+        _ => 0,
     }
 }
 
@@ -312,21 +313,13 @@ fn is_turn(sid: u16, entry: &Entry) -> bool
     }
 }
 
-// The accepted request of this SID that an entry is.
-fn request_of(sid: u16, entry: &Entry) -> Option<Request>
-    ensures { result ≡ request_by sid entry.now.call entry.now.reply }
+// The parameters of a flow of this SID after an entry.
+fn spec_with(spec: FlowSpec, sid: u16, entry: &Entry) -> FlowSpec
+    ensures { result ≡ option_map_or (λ given. given) (new_spec sid entry.now.call entry.now.reply) spec }
 {
     match (entry.call, &entry.reply) {
-        (
-            Call::Ask {
-                sid: other,
-                amount,
-                heard,
-                ..
-            },
-            Reply::Taken,
-        ) if other == sid => Some(Request { amount, heard }),
-        _ => None,
+        (Call::Change(other, given), Reply::Changed(_)) if other == sid => given,
+        _ => spec,
     }
 }
 
@@ -356,9 +349,10 @@ fn grant_element(
     requires start { start < 2 ^ 62 }
     requires granted { MayGrantAll config.now service.old
         (cons_option (grant_by sid start (element, bytes)) []) }
-    ensures { (requests : List Asked) (grants : List DataGrant)
-        → IsServiceOf config.now service.old requests grants
-        → IsServiceOf config.now service.new requests
+    ensures { (claims : List Claim) (asked : ℕ) (grants : List DataGrant)
+        → IsServiceOf config.now service.old claims asked grants
+        → IsServiceOf config.now service.new
+        (map (with_grants (cons_option (grant_by sid start (element, bytes)) [])) claims) asked
         (grants ++ cons_option (grant_by sid start (element, bytes)) []) }
 {
     match grant_of(sid, start, element, bytes) {

@@ -1,6 +1,6 @@
 //! The lives of all flows of a history, in the order of their admissions.
 
-ghost use Rattle.std.specs.Prelude.{◌≡◌, ◌<◌, ◌^◌, ◌++◌, ◌∷◌, [], List, map, length, count_by, slice_index, slice_set};
+ghost use Rattle.std.specs.Prelude.{◌≡◌, ◌<◌, ◌^◌, ◌++◌, ◌∷◌, [], List, map, length, sum_by, slice_index, slice_set};
 ghost use Rattle.std.specs.Prelude.{OnOk, OnErr, vec_len, vec_capacity};
 ghost use Rattle.std.specs.List.{cons_option, filter_map, zip};
 ghost use Rattle.minislots.specs.declared.config.Config.{Config};
@@ -9,12 +9,12 @@ ghost use Rattle.sched_calls.specs.declared.reply.Entry.{Entry as Recorded};
 ghost use Rattle.sched_history.specs.Facts.{IsOrderly, HasFront};
 ghost use Rattle.sched_history.specs.Life.{grant_by, grants_of_map};
 ghost use Rattle.sched_history.specs.Time.{next_after};
-ghost use Rattle.sched_report.specs.Granted.{HaveMore, MayGrantEach, MayCountEach, is_unsolicited_to, unsolicited_at};
+ghost use Rattle.sched_report.specs.Granted.{HaveMore, MayGrantEach, MayCountEach};
 ghost use Rattle.sched_report.specs.Live.{AreLive, HaveRoomFor, IsAlone};
 ghost use Rattle.sched_report.specs.Lives.{PastLife, opening_by, life_begun, lives_of, with_entry};
 ghost use Rattle.sched_report.specs.Lives.{IsRequest, IsOpening};
 ghost use Rattle.sched_report.specs.Named.{HasNoMap};
-ghost use Rattle.sched_report.specs.Said.{unsolicited_of_map};
+ghost use Rattle.sched_report.specs.Said.{unsolicited_at, unsolicited_of_map};
 ghost use Rattle.sched_report.specs.ToldLives.{AreLives, MayNoteEach, HasOrderlyMap, AddsToReport, MayFollow};
 
 use crate::life::LifeTally;
@@ -54,10 +54,11 @@ fn note_place(places: &mut [usize], sid: u16, place: usize)
 pub(crate) fn reserve_each(
     lives: &mut [LifeTally],
     places: &[usize],
+    config: &Checked,
     entry: &Entry,
 ) -> Result<(), AllocError>
     requires { AreLive places.now lives.old }
-    ensures ok { OnOk result (HaveRoomFor entry.now.call entry.now.reply lives.new) }
+    ensures ok { OnOk result (HaveRoomFor config.now entry.now.call entry.now.reply lives.new) }
     ensures same { (c : Config) (ls : List PastLife) → AreLives c lives.old ls
         → AreLives c lives.new ls }
     ensures live { AreLive places.now lives.new }
@@ -69,7 +70,7 @@ pub(crate) fn reserve_each(
     if place >= lives.len() {
         return Ok(());
     }
-    lives[place].reserve_for(entry)
+    lives[place].reserve_for(config, entry)
 }
 
 // Counts an element with this byte count, in a MAP that starts there, in the life to which it is a data grant.
@@ -86,7 +87,7 @@ fn grant_at(
     requires granted { MayGrantEach config.now
         (λ sid. cons_option (grant_by sid start (element, bytes)) []) lives.old }
     ensures { HaveMore config.now (λ sid. cons_option (grant_by sid start (element, bytes)) [])
-        (λ spec sid. 0) lives.old lives.new }
+        0 (λ spec sid. 0) lives.old lives.new }
 {
     if bytes == 0 {
         return;
@@ -112,18 +113,18 @@ fn grant_each(
         (λ sid. filter_map (grant_by sid start) (zip elements.now counts.now)) lives.old }
     ensures { HaveMore config.now
         (λ sid. filter_map (grant_by sid start) (zip elements.now counts.now))
-        (λ spec sid. 0) lives.old lives.new }
+        0 (λ spec sid. 0) lives.old lives.new }
 {
     for i in 0..elements.len().min(counts.len()) {
         grant_at(lives, places, config, start, elements[i], counts[i]);
     }
 }
 
-// Counts an allocation in the life to which it is an unsolicited grant.
+// Counts the bytes of an allocation in the life to which it is an unsolicited grant.
 fn count_at(lives: &mut [LifeTally], places: &[usize], allocation: Allocation)
     requires live { AreLive places.now lives.old }
     requires few { MayCountEach 1 lives.old }
-    ensures { (c : Config) → HaveMore c (λ sid. [])
+    ensures { (c : Config) → HaveMore c (λ sid. []) 1
         (λ spec sid. unsolicited_at spec sid allocation) lives.old lives.new }
 {
     let place = place_under(places, allocation.sid);
@@ -132,13 +133,13 @@ fn count_at(lives: &mut [LifeTally], places: &[usize], allocation: Allocation)
     }
 }
 
-// Counts the allocations of elements in the lives to which they are unsolicited grants.
+// Counts the bytes of the allocations of elements in the lives to which they are unsolicited grants.
 fn count_each(lives: &mut [LifeTally], places: &[usize], elements: &[Element])
     requires front { (c : Config) × HasFront c elements.now }
     requires live { AreLive places.now lives.old }
     requires few { MayCountEach (length elements.now) lives.old }
-    ensures { (c : Config) → HaveMore c (λ sid. [])
-        (λ spec sid. count_by (is_unsolicited_to spec sid) (allocations_of elements.now))
+    ensures { (c : Config) → HaveMore c (λ sid. []) (length elements.now)
+        (λ spec sid. sum_by (unsolicited_at spec sid) (allocations_of elements.now))
         lives.old lives.new }
 {
     for i in 0..front_len(elements) {
@@ -154,7 +155,7 @@ fn note_map(lives: &mut [LifeTally], places: &[usize], config: &Checked, map: &F
     requires few { MayCountEach (length map.now.wire.elements) lives.old }
     requires granted { MayGrantEach config.now (λ sid. grants_of_map sid map.now) lives.old }
     ensures { HaveMore config.now (λ sid. grants_of_map sid map.now)
-        (λ spec sid. unsolicited_of_map spec sid map.now) lives.old lives.new }
+        (length map.now.wire.elements) (λ spec sid. unsolicited_of_map spec sid map.now) lives.old lives.new }
 {
     let elements = map.wire.elements.as_slice();
     let counts = map.bytes.as_slice();
@@ -167,7 +168,7 @@ fn note_named(lives: &mut [LifeTally], places: &[usize], config: &Checked, next:
     requires may { (ls : List PastLife) × AreLives config.now lives.old ls
         × MayNoteEach config.now ls next entry.now }
     requires room { IsRequest entry.now.call entry.now.reply
-        → HaveRoomFor entry.now.call entry.now.reply lives.old }
+        → HaveRoomFor config.now entry.now.call entry.now.reply lives.old }
     requires live { AreLive places.now lives.old }
     requires unbuilt { HasNoMap entry.now.reply }
     ensures lives { (ls : List PastLife) → AreLives config.now lives.old ls
@@ -195,7 +196,7 @@ pub(crate) fn note_each(
     requires may { (ls : List PastLife) × AreLives config.now lives.old ls
         × MayNoteEach config.now ls next entry.now }
     requires room { IsRequest entry.now.call entry.now.reply
-        → HaveRoomFor entry.now.call entry.now.reply lives.old }
+        → HaveRoomFor config.now entry.now.call entry.now.reply lives.old }
     requires live { AreLive places.now lives.old }
     requires orderly { HasOrderlyMap config.now entry.now.reply }
     ensures lives { (ls : List PastLife) → AreLives config.now lives.old ls
@@ -213,11 +214,12 @@ pub(crate) fn note_each(
 pub(crate) fn reserve_for(
     lives: &mut Vec<LifeTally>,
     places: &[usize],
+    config: &Checked,
     entry: &Entry,
 ) -> Result<(), AllocError>
     requires { AreLive places.now lives.old.items }
     ensures requests { OnOk result (IsRequest entry.now.call entry.now.reply →
-        HaveRoomFor entry.now.call entry.now.reply lives.new.items) }
+        HaveRoomFor config.now entry.now.call entry.now.reply lives.new.items) }
     ensures lives { OnOk result (IsOpening entry.now.call entry.now.reply →
         vec_len lives.new < vec_capacity lives.new) }
     ensures same { (c : Config) (ls : List PastLife) → AreLives c lives.old.items ls
@@ -226,7 +228,9 @@ pub(crate) fn reserve_for(
     ensures err { OnErr result (AddsToReport entry.now.call entry.now.reply) }
 {
     match (entry.call, &entry.reply) {
-        (Call::Ask { .. }, Reply::Taken) => reserve_each(lives, places, entry),
+        (Call::Ask { .. } | Call::Replace { .. }, Reply::Taken) => {
+            reserve_each(lives, places, config, entry)
+        }
         (Call::Admit(..), Reply::Admitted(_)) => lives.reserve(1),
         _ => Ok(()),
     }
@@ -293,7 +297,7 @@ pub(crate) fn follow(
 ) -> u64
     requires may { (h : List Recorded) × MayFollow config.now h lives.old.items next entry.now }
     requires requests { IsRequest entry.now.call entry.now.reply
-        → HaveRoomFor entry.now.call entry.now.reply lives.old.items }
+        → HaveRoomFor config.now entry.now.call entry.now.reply lives.old.items }
     requires opening { IsOpening entry.now.call entry.now.reply
         → vec_len lives.old < vec_capacity lives.old }
     requires live { AreLive places.old lives.old.items }

@@ -3,7 +3,7 @@
 ghost use Rattle.std.specs.Prelude.{◌≡◌, ◌<◌, ◌≤◌, ◌++◌, ◌∷◌, ◌^◌, ◌+◌, ◌*◌, [], List, ℕ, length, true};
 ghost use Rattle.minislots.specs.declared.config.Config.{Config};
 ghost use Rattle.sched_calls.specs.FlowSpec.{takes_requests};
-ghost use Rattle.sched_report.specs.Lives.{PastLife};
+ghost use Rattle.sched_report.specs.Lives.{PastLife, spec_of};
 ghost use Rattle.sched_report.specs.Ranks.{lives_of_rank, AreRankSums, AreRankNumbers, AreFew};
 ghost use Rattle.sched_report.specs.Ranks.{both_least, both_greatest};
 ghost use Rattle.sched_report.specs.Told.{IsLifeOf};
@@ -23,6 +23,8 @@ pub struct RankSums {
     pub waiting: u128,
     /// How many requests waited when their life ended.
     pub dropped: u128,
+    /// How many requests were replaced: superseded by a later one before all their bytes were granted.
+    pub replaced: u128,
     /// How many requests were served.
     pub served: u128,
     /// The least of their delays, in minislots.
@@ -54,6 +56,7 @@ impl RankSums {
             granted: 0,
             waiting: 0,
             dropped: 0,
+            replaced: 0,
             served: 0,
             least: None,
             greatest: None,
@@ -80,7 +83,7 @@ impl RankSums {
         requires few { (n : ℕ) × AreFew self.old n × (n < 2 ^ 64) }
         requires life { (c : Config) × (l : PastLife) × IsLifeOf c life.now l }
         ensures sums { (c : Config) (ls : List PastLife) (l : PastLife) → IsLifeOf c life.now l
-            → takes_requests l.spec ≡ true → AreRankSums c self.old ls
+            → takes_requests (spec_of l) ≡ true → AreRankSums c self.old ls
             → AreRankSums c self.new (ls ++ l ∷ []) }
         ensures few { (n : ℕ) → AreFew self.old n → AreFew self.new (n + 1) }
     {
@@ -89,6 +92,7 @@ impl RankSums {
         self.granted += u128::from(sums.granted);
         self.waiting += u128::from(life.waiting());
         self.dropped += u128::from(life.dropped());
+        self.replaced += u128::from(sums.replaced);
         self.served += u128::from(sums.delays.served);
         self.least = both_least(self.least, sums.delays.least);
         self.greatest = both_greatest(self.greatest, sums.delays.greatest);

@@ -100,7 +100,7 @@ impl Reporter {
         if self.auditor.taken() >= MAX_WHOLE_HISTORY {
             return Err(JudgeFault::Full);
         }
-        match reserve_for(&mut self.lives, &self.places, entry) {
+        match reserve_for(&mut self.lives, &self.places, &self.config, entry) {
             Ok(()) => {}
             Err(_) => return Err(JudgeFault::Memory),
         }
@@ -127,7 +127,7 @@ impl Reporter {
         totals
     }
 
-    /// How many refusals with each number there are among the entries that were taken: with 1 first, with 20 last.
+    /// How many refusals with each number there are among the entries that were taken: with 1 first, with 23 last.
     pub fn refused(&self) -> &[u64]
         ensures { CountsRefusals result.now self.now.history }
     {

@@ -1,6 +1,6 @@
 //! The requests of one life of a flow, and the data grants that serve them.
 
-ghost use Rattle.std.specs.Prelude.{◌≡◌, ◌+◌, ◌^◌, ◌<◌, ◌≤◌, ◌∷◌, ◌++◌, [], List, ℕ, length, true, false};
+ghost use Rattle.std.specs.Prelude.{◌≡◌, ◌+◌, ◌^◌, ◌<◌, ◌≤◌, ◌∷◌, ◌++◌, [], List, ℕ, length, map, true, false};
 ghost use Rattle.std.specs.Prelude.{◌*◌, OnOk, IfSome, IfNone, min, max};
 ghost use Rattle.std.specs.VecDeque.{deque_len};
 ghost use Rattle.std.specs.Option.{option_map_or};
@@ -9,23 +9,22 @@ ghost use Rattle.minislots.specs.Config.{IsLawful};
 ghost use Rattle.minislots.specs.Units.{slots_for};
 ghost use Rattle.flow_book.specs.declared.flow.Grant.{Grant as DataGrant};
 ghost use Rattle.flow_book.specs.Flows.{bytes_of};
-ghost use Rattle.sched_report.specs.Delays.{delays_of, AreDelays, AreSums, unserved_of};
+ghost use Rattle.sched_report.specs.Delays.{Claim, delays_of, AreDelays, AreSums, unserved_of};
 ghost use Rattle.sched_report.specs.Steps.{CountsUpto};
-ghost use Rattle.sched_report.specs.declared.service.Request.{Request as Asked};
 ghost use Rattle.sched_report.specs.Served.{IsServiceOf, HasRoom, MayAsk, MayGrant, IsWaitingBehind, IsReachedFirst};
+ghost use Rattle.sched_report.specs.Served.{waits_with, with_grants, as_superseded};
 
 use crate::spread::Spread;
 use flow_book::Grant;
 use minislots::Checked;
-use sched_calls::Amount;
 use std::alloc::{AllocError, Global};
 use std::collections::VecDeque;
 
-/// A request: how much it asks for, and the minislot at which it was heard.
+/// A request: the bytes that it asks for, and the minislot at which it was heard.
 #[derive(Clone, Copy)]
 pub struct Request {
-    /// How much it asks for.
-    pub amount: Amount,
+    /// The bytes that it asks for.
+    pub bytes: u64,
     /// The minislot at which a receiver heard it.
     pub heard: u64,
 }
@@ -98,21 +97,25 @@ fn greatest_with(greatest: Option<u64>, delay: u64) -> u64
 pub struct Sums {
     /// How many requests there were.
     pub asks: u64,
-    /// Their bytes.
+    /// Their bytes. Where one superseded those before, the bytes granted up to it, and those of it and of later ones.
     pub asked: u64,
     /// The bytes of the data grants.
     pub granted: u64,
-    /// The requests that were served. The others wait, or were dropped.
+    /// How many requests were replaced: superseded by a later one before all their bytes were granted.
+    pub replaced: u64,
+    /// The requests that were served. The others wait, or were dropped or replaced.
     pub delays: Delays,
 }
 
 /// What is told of the requests and the data grants of one life of a flow. It keeps the requests that wait. A request
-/// is served by the first data grant with which the granted bytes reach all that were asked up to it and with it.
+/// is served by the first data grant with which the granted bytes reach all that were asked with it, unless a later one
+/// superseded it before.
 #[derive(Drop)]
 pub struct Service {
     asks: u64,
     asked: u64,
     granted: u64,
+    replaced: u64,
     delays: Delays,
     spread: Spread,
     waiting: VecDeque<Waiting>,
@@ -121,12 +124,13 @@ pub struct Service {
 impl Service {
     /// That of a life that begins.
     pub fn new(alloc: Global) -> Service
-        ensures { (c : Config) → IsServiceOf c result [] [] }
+        ensures { (c : Config) → IsServiceOf c result [] 0 [] }
     {
         Service {
             asks: 0,
             asked: 0,
             granted: 0,
+            replaced: 0,
             delays: Delays::none(),
             spread: Spread::new(alloc),
             waiting: VecDeque::new(alloc),
@@ -136,8 +140,9 @@ impl Service {
     /// Takes memory for one request more. What is told stays.
     pub fn reserve(&mut self) -> Result<(), AllocError>
         ensures ok { OnOk result (HasRoom self.new) }
-        ensures same { (c : Config) (requests : List Asked) (grants : List DataGrant)
-            → IsServiceOf c self.old requests grants → IsServiceOf c self.new requests grants }
+        ensures same { (c : Config) (claims : List Claim) (bytes : ℕ) (grants : List DataGrant)
+            → IsServiceOf c self.old claims bytes grants
+            → IsServiceOf c self.new claims bytes grants }
     {
         self.waiting.reserve(1)?;
         let more = self.waiting.len() + 1;
@@ -145,26 +150,43 @@ impl Service {
     }
 
     /// Counts a request, which waits.
-    pub fn ask(&mut self, config: &Checked, request: Request)
-        requires may { MayAsk config.now self.old request }
+    pub fn ask(&mut self, request: Request)
+        requires may { (c : Config) × MayAsk c self.old request }
         requires room { HasRoom self.old }
-        ensures { (requests : List Asked) (grants : List DataGrant)
-            → IsServiceOf config.now self.old requests grants
-            → IsServiceOf config.now self.new (requests ++ request ∷ []) grants }
+        ensures { (c : Config) (claims : List Claim) (bytes : ℕ) (grants : List DataGrant)
+            → IsServiceOf c self.old claims bytes grants
+            → IsServiceOf c self.new (claims ++ waits_with grants
+            (record { upto = bytes + request.bytes; heard = request.heard }) ∷ [])
+            (bytes + request.bytes) grants }
     {
-        let upto = self.asked + request.amount.bytes(config);
+        let upto = self.asked + request.bytes;
         let heard = request.heard;
         self.waiting.push_back_reserved(Waiting { upto, heard });
         self.asks += 1;
         self.asked = upto;
     }
 
+    /// Supersedes the requests that wait: none does then, and no more bytes were asked than were granted.
+    pub fn supersede(&mut self)
+        requires { (c : Config) × (claims : List Claim) × (bytes : ℕ) × (grants : List DataGrant)
+            × IsServiceOf c self.old claims bytes grants × (length claims ≤ 2 ^ 44) }
+        ensures superseded { (c : Config) (claims : List Claim) (bytes : ℕ) (grants : List DataGrant)
+            → IsServiceOf c self.old claims bytes grants
+            → IsServiceOf c self.new (map as_superseded claims) self.old.granted grants }
+        ensures room { HasRoom self.old → HasRoom self.new }
+    {
+        self.replaced += self.unserved();
+        self.waiting.clear();
+        self.asked = self.granted;
+    }
+
     /// Counts a data grant, and the delay of each request that it serves.
     pub fn grant(&mut self, config: &Checked, grant: Grant)
         requires { MayGrant config.now self.old grant }
-        ensures { (requests : List Asked) (grants : List DataGrant)
-            → IsServiceOf config.now self.old requests grants
-            → IsServiceOf config.now self.new requests (grants ++ grant ∷ []) }
+        ensures { (claims : List Claim) (bytes : ℕ) (grants : List DataGrant)
+            → IsServiceOf config.now self.old claims bytes grants
+            → IsServiceOf config.now self.new
+            (map (with_grants (grant ∷ [])) claims) bytes (grants ++ grant ∷ []) }
     {
         self.granted += u64::from(grant.bytes);
         let end = end_of(config, grant);
@@ -177,21 +199,22 @@ impl Service {
 
     /// What there was of requests and grants.
     pub fn sums(&self) -> Sums
-        ensures { (c : Config) (requests : List Asked) (grants : List DataGrant)
-            → IsServiceOf c self.now requests grants → AreSums c result requests grants }
+        ensures { (c : Config) (claims : List Claim) (bytes : ℕ) (grants : List DataGrant)
+            → IsServiceOf c self.now claims bytes grants → AreSums c result claims bytes grants }
     {
         Sums {
             asks: self.asks,
             asked: self.asked,
             granted: self.granted,
+            replaced: self.replaced,
             delays: self.delays,
         }
     }
 
     /// The bytes of the data grants.
     pub fn granted(&self) -> u64
-        ensures { (c : Config) (requests : List Asked) (grants : List DataGrant)
-            → IsServiceOf c self.now requests grants → result ≡ bytes_of grants }
+        ensures { (c : Config) (claims : List Claim) (bytes : ℕ) (grants : List DataGrant)
+            → IsServiceOf c self.now claims bytes grants → result ≡ bytes_of grants }
     {
         let granted = self.granted;
         granted
@@ -199,20 +222,21 @@ impl Service {
 
     // How many delays there are of which no more than this is told.
     pub(crate) fn upto(&self, delay: u64) -> u64
-        requires { (c : Config) × (requests : List Asked) × (grants : List DataGrant)
-            × IsServiceOf c self.now requests grants × (length requests ≤ 2 ^ 44) }
-        ensures counts { (c : Config) (requests : List Asked) (grants : List DataGrant)
-            → IsServiceOf c self.now requests grants
-            → CountsUpto delay result (delays_of c requests grants) }
+        requires { (c : Config) × (claims : List Claim) × (bytes : ℕ) × (grants : List DataGrant)
+            × IsServiceOf c self.now claims bytes grants × (length claims ≤ 2 ^ 44) }
+        ensures counts { (c : Config) (claims : List Claim) (bytes : ℕ) (grants : List DataGrant)
+            → IsServiceOf c self.now claims bytes grants
+            → CountsUpto delay result (delays_of c claims) }
         ensures few { result ≤ 2 ^ 44 }
     {
         self.spread.upto(delay)
     }
 
-    /// How many requests no data grant has served.
+    /// How many requests no data grant has served, and none has superseded.
     pub fn unserved(&self) -> u64
-        ensures { (c : Config) (requests : List Asked) (grants : List DataGrant)
-            → IsServiceOf c self.now requests grants → result ≡ unserved_of c requests grants }
+        ensures unserved { (c : Config) (claims : List Claim) (bytes : ℕ) (grants : List DataGrant)
+            → IsServiceOf c self.now claims bytes grants → result ≡ unserved_of c claims }
+        ensures waiting { result ≡ length self.now.waiting.items }
     {
         self.waiting.len() as u64
     }

@@ -1,11 +1,11 @@
 //! The numbers of a whole history.
 
-ghost use Rattle.std.specs.Prelude.{◌≡◌, ◌+◌, ◌^◌, ◌<◌, ◌≤◌, ◌∷◌, ◌++◌, [], List};
+ghost use Rattle.std.specs.Prelude.{◌≡◌, ◌+◌, ◌^◌, ◌<◌, ◌≤◌, ◌∷◌, ◌++◌, [], List, if◌then◌else◌};
 ghost use Rattle.sched_calls.specs.declared.reply.Entry.{Entry as Recorded};
 ghost use Rattle.minislots.specs.declared.config.Config.{Config};
 ghost use Rattle.frame_picture.specs.Frames.{TellsUnsolicited};
 ghost use Rattle.sched_report.specs.Uses.{slots_in, all_slots, AreOfFrame};
-ghost use Rattle.sched_report.specs.Totals.{with_frame, AreTotals};
+ghost use Rattle.sched_report.specs.Totals.{is_replacement, with_frame, AreTotals};
 ghost use Rattle.sched_report.specs.Counted.{IsCounted};
 
 use crate::calls::Calls;
@@ -13,7 +13,7 @@ use crate::slots::Slots;
 use frame_picture::Flows;
 use map_build::FrameMap;
 use minislots::Checked;
-use sched_history::{Entry, Reply};
+use sched_history::{Call, Entry, Reply};
 
 /// The numbers of a whole history.
 #[derive(Clone, Copy)]
@@ -26,6 +26,8 @@ pub struct Totals {
     pub to: Option<u64>,
     /// How often frames were left out.
     pub skips: u64,
+    /// How many requests were accepted that supersede those before.
+    pub replaces: u64,
     /// The calls by their kind.
     pub calls: Calls,
     /// The minislots of the frames by their use.
@@ -42,6 +44,7 @@ impl Totals {
             from: None,
             to: None,
             skips: 0,
+            replaces: 0,
             calls: Calls::none(),
             slots: Slots::none(),
         }
@@ -55,6 +58,7 @@ impl Totals {
     {
         let frame = config.frame();
         self.calls.add(entry);
+        self.replaces += replacements_in(entry);
         match &entry.reply {
             Reply::Built(map) => self.add_frame(frame, flows, map),
             Reply::Skipped(_) => self.skips += 1,
@@ -78,5 +82,15 @@ impl Totals {
         self.from = self.from.or(Some(map.start));
         self.to = Some(map.start + u64::from(frame));
         self.slots = self.slots.and(slots);
+    }
+}
+
+// How many requests that supersede those before an entry is: one where it is accepted, or none.
+fn replacements_in(entry: &Entry) -> u64
+    ensures { result ≡ (if is_replacement entry.now.call entry.now.reply then 1 else 0) }
+{
+    match (entry.call, &entry.reply) {
+        (Call::Replace { .. }, Reply::Taken) => 1,
+        _ => 0,
     }
 }

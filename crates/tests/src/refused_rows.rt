@@ -28,6 +28,14 @@ const VOICE: FlowSpec = FlowSpec::Unsolicited {
     grants: 1,
 };
 
+// The same telephone with two smaller grants in an interval, for which it needs another place.
+const SMALLER: FlowSpec = FlowSpec::Unsolicited {
+    size: 100,
+    interval_us: 10_000,
+    jitter_us: 800,
+    grants: 2,
+};
+
 const DATA: FlowSpec = FlowSpec::BestEffort {
     priority: 3,
     rate: 0,
@@ -42,13 +50,14 @@ const ASK: Call = Call::Ask {
 };
 
 // Calls that are not refused, and the version that is read behind each.
-const ROWS: [(Call, u64); 7] = [
+const ROWS: [(Call, u64); 8] = [
     (Call::Admit(5, VOICE), 0),
     (Call::Build { now: 760 }, 1),
     (Call::Admit(17, DATA), 1),
     (ASK, 1),
     (Call::Build { now: 800 }, 2),
     (Call::Build { now: 840 }, 3),
+    (Call::Change(5, SMALLER), 3),
     (Call::Status(17), 3),
 ];
 
@@ -91,6 +100,20 @@ fn call_at_last<R: Wait + Abort>(
     }
 }
 
+// Where the telephone has its place then: in the first frame of its interval, and in the other of the cycle.
+const PLACE: [u16; 4] = [4, 13, 4, 13];
+
+// The call is recorded and not refused, and a change has its place.
+fn is_accepted(answer: &Result<Reply, Unrecorded>) -> bool {
+    match answer {
+        Err(_) | Ok(Reply::Refused(_)) | Ok(Reply::Changed(None)) => false,
+        Ok(Reply::Changed(Some(placement))) => {
+            placement.reference == 1_204 && placement.starts.as_slice() == PLACE.as_slice()
+        }
+        Ok(_) => true,
+    }
+}
+
 // Makes the calls of all rows by one seat.
 fn play<R: Wait + Abort>(
     rt: &R,
@@ -104,9 +127,8 @@ fn play<R: Wait + Abort>(
     let mut seat = seat;
     for (place, row) in ROWS.iter().enumerate() {
         let (back, answer) = call_at_last(rt, shared, seat, reader, row.0);
-        let is_accepted = !matches!(answer, Err(_) | Ok(Reply::Refused(_)));
         assert!(rt;
-            is_accepted && version_read(reader) == row.1,
+            is_accepted(&answer) && version_read(reader) == row.1,
             "call {place}"
         );
         seat = back;
@@ -131,6 +153,6 @@ fn a_call_that_found_no_memory_can_be_made_again(rt: HostRuntime) {
         press,
     } = shared.close(seats);
     press.end(&rt);
-    assert!(rt; history.len() == 7 && counts[0] == 7);
+    assert!(rt; history.len() == 8 && counts[0] == 8);
     assert!(rt; version_read(&mut reader) == 3);
 }

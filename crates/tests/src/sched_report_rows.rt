@@ -10,8 +10,8 @@ use std::alloc::AllocGlobal;
 use std::test::Fail;
 
 // Two frames, the second with a data grant of 9 minislots; a request to nobody; a frame after others were left out,
-// with an unsolicited grant of 4 minislots and a poll of 2.
-const CALLS: [Call; 9] = [
+// with an unsolicited grant of 4 minislots and a poll of 2; and one with two polls, since the unsolicited flow rests.
+const CALLS: [Call; 14] = [
     Call::Build { now: 760 },
     Call::Admit(
         17,
@@ -54,6 +54,23 @@ const CALLS: [Call; 9] = [
     ),
     Call::Skip { now: 2000 },
     Call::Build { now: 2000 },
+    Call::Rest(18),
+    Call::Build { now: 2040 },
+    Call::Wake(18),
+    Call::Change(
+        17,
+        FlowSpec::BestEffort {
+            priority: 4,
+            rate: 0,
+            burst: 0,
+        },
+    ),
+    Call::Replace {
+        receiver: 0,
+        sid: 17,
+        amount: Amount::Bytes(0),
+        heard: 800,
+    },
 ];
 
 #[test]
@@ -69,14 +86,15 @@ fn the_numbers_of_a_history_are_those_worked_out_by_hand(rt: HostRuntime) -> Res
         reporter.take(entry)?;
     }
     let totals = reporter.totals();
-    assert!(rt; totals.frames == 3 && totals.skips == 1);
-    assert!(rt; totals.from == Some(800) && totals.to == Some(2080));
+    assert!(rt; totals.frames == 4 && totals.skips == 1);
+    assert!(rt; totals.from == Some(800) && totals.to == Some(2120));
     let calls = totals.calls;
-    assert!(rt; calls.build == 3 && calls.admit == 3 && calls.ask == 2 && calls.skip == 1);
+    assert!(rt; calls.build == 4 && calls.admit == 3 && calls.ask == 2 && calls.skip == 1);
+    assert!(rt; calls.replace == 1 && calls.change == 1 && calls.rest == 1 && calls.wake == 1);
     assert!(rt; calls.heard == 0 && calls.remove == 0 && calls.status == 0);
     let slots = totals.slots;
-    assert!(rt; slots.request == 12 && slots.data_grants == 9 && slots.idle == 93);
-    assert!(rt; slots.unsolicited == 4 && slots.poll == 2 && slots.opportunity == 0);
+    assert!(rt; slots.request == 16 && slots.data_grants == 9 && slots.idle == 125);
+    assert!(rt; slots.unsolicited == 4 && slots.poll == 6 && slots.opportunity == 0);
     for (place, count) in reporter.refused().iter().enumerate() {
         assert!(rt;
             *count == u64::from(place == 6),
@@ -85,7 +103,7 @@ fn the_numbers_of_a_history_are_those_worked_out_by_hand(rt: HostRuntime) -> Res
     }
     assert!(rt; reporter.lives() == 3, "three flows were admitted");
     let life = reporter.life(0);
-    assert!(rt; life.sid == 17 && life.from == 840 && life.to == 2080 && !life.ended);
+    assert!(rt; life.sid == 17 && life.from == 840 && life.to == 2120 && !life.ended);
     let sums = life.sums;
     assert!(rt; sums.asks == 1 && sums.asked == 100 && sums.granted == 100);
     let delays = sums.delays;

@@ -17,9 +17,10 @@ struct Shown {
     rows: String,
 }
 
-// A bandwidth request.
-fn tell_ask(
+// A bandwidth request of this name.
+fn tell_request(
     words: &mut String,
+    name: &str,
     receiver: u8,
     sid: u16,
     amount: Amount,
@@ -31,7 +32,7 @@ fn tell_ask(
     };
     writeln!(
         words,
-        "ask for {number} {unit} of SID {sid}, heard by receiver {receiver} at {heard}"
+        "{name} {number} {unit} of SID {sid}, heard by receiver {receiver} at {heard}"
     )
 }
 
@@ -72,7 +73,7 @@ fn tell_call(words: &mut String, call: Call) -> Result<(), AllocError> {
             sid,
             amount,
             heard,
-        } => tell_ask(words, receiver, sid, amount, heard),
+        } => tell_request(words, "ask for", receiver, sid, amount, heard),
         Call::Heard { receiver, upto } => {
             writeln!(words, "all heard by receiver {receiver} before {upto}")
         }
@@ -81,6 +82,15 @@ fn tell_call(words: &mut String, call: Call) -> Result<(), AllocError> {
         Call::Status(sid) => writeln!(words, "status of SID {sid}"),
         Call::Reserve { usage, slots } => tell_reserve(words, usage, slots),
         Call::Header(header) => tell_header(words, header),
+        Call::Replace {
+            receiver,
+            sid,
+            amount,
+            heard,
+        } => tell_request(words, "replace by", receiver, sid, amount, heard),
+        Call::Change(sid, _) => writeln!(words, "change SID {sid}"),
+        Call::Rest(sid) => writeln!(words, "rest of SID {sid}"),
+        Call::Wake(sid) => writeln!(words, "wake SID {sid}"),
     }
 }
 
@@ -140,6 +150,7 @@ fn show(alloc: Global, reply: &Reply) -> Result<Shown, AllocError> {
     match reply {
         Reply::Built(map) => show_map(alloc, map),
         Reply::Admitted(_)
+        | Reply::Changed(_)
         | Reply::Removed
         | Reply::Taken
         | Reply::Noted
@@ -185,7 +196,7 @@ fn tell_shown(words: &mut String, shown: &Shown, other: &Shown) -> Result<(), Al
 // What the lawful reply is: the only one, but for a placement, beside which there may be others.
 fn praise(lawful: &Reply) -> &'static str {
     match lawful {
-        Reply::Admitted(Some(_)) => "expected, for example:",
+        Reply::Admitted(Some(_)) | Reply::Changed(Some(_)) => "expected, for example:",
         _ => "expected:",
     }
 }

@@ -1,12 +1,12 @@
 //! One reply of a history in its usual spelling, read from its bytes: its members stand in ascending order, with none
 //! between them.
 
-ghost use Rattle.std.specs.Prelude.{◌≡◌, ◌^◌, ◌<◌, ℕ, codes, Some, IfOk, IfSome, length};
+ghost use Rattle.std.specs.Prelude.{◌≡◌, ◌^◌, ◌<◌, ℕ, List, codes, Some, IfOk, IfSome, length};
 ghost use Rattle.json.specs.Json.{value};
 ghost use Rattle.serde_json.specs.Data.{Data, Members, number, unsigned, string, object, no_members, put};
 ghost use Rattle.serde_json.specs.Read.{of_json, converted};
 ghost use Rattle.history_reading.specs.Replies.{reply_of};
-ghost use Rattle.history_reading.specs.Spelled.{with_value, AreMembers, MakesReply};
+ghost use Rattle.history_reading.specs.Spelled.{with_value, AreMembers, SaysPlace, MakesReply};
 
 use super::quick_member::{Key, bytes_under, number_under, take_end, text_under};
 use super::quick_numbers::{u16s_under, u32s_under};
@@ -61,23 +61,43 @@ fn read_flow(reader: &mut Quick<'_>, asked: u64) -> Result<Reply, Stop>
     })
 }
 
-// The reply to an admission that has a placement, behind its kind and the reference.
-fn read_placed(
+// The placement of a flow, behind the kind of its reply and the reference.
+fn read_placement(
     alloc: Global,
     reader: &mut Quick<'_>,
     depth: usize,
     reference: u64,
-) -> Result<Reply, Stop>
-    ensures { IfOk result (λ reply. MakesReply depth
+) -> Result<Placement, Stop>
+    ensures { IfOk result (λ placement. (kind : List ℕ) → SaysPlace depth kind
         (put (codes "reference") (number (unsigned reference))
-        (put (codes "kind") (string (codes "admitted")) no_members)) reply reader.old reader.new) }
+        (put (codes "kind") (string kind) no_members)) (Some placement) reader.old reader.new) }
 {
     let starts = u16s_under(alloc, reader, depth, Key::Starts)?;
     take_end(reader)?;
-    Ok(Reply::Admitted(Some(Placement {
+    Ok(Placement {
         reference,
         starts: Starts::from_vec(starts),
-    })))
+    })
+}
+
+// The place of a flow, where it has one, behind the kind of its reply.
+fn read_place(
+    alloc: Global,
+    reader: &mut Quick<'_>,
+    depth: usize,
+) -> Result<Option<Placement>, Stop>
+    ensures { IfOk result (λ place. (kind : List ℕ) → SaysPlace depth kind
+        (put (codes "kind") (string kind) no_members) place reader.old reader.new) }
+{
+    let Some(key) = next_key(reader)? else {
+        return Ok(None);
+    };
+    if key != "reference" {
+        return Err(Stop::Unusual);
+    }
+    let reference = read_number(reader)?;
+    let placement = read_placement(alloc, reader, depth, reference)?;
+    Ok(Some(placement))
 }
 
 // The reply to an admission, behind its kind.
@@ -85,15 +105,17 @@ fn read_admitted(alloc: Global, reader: &mut Quick<'_>, depth: usize) -> Result<
     ensures { IfOk result (λ reply. MakesReply depth
         (put (codes "kind") (string (codes "admitted")) no_members) reply reader.old reader.new) }
 {
-    let Some(key) = next_key(reader)? else {
-        return Ok(Reply::Admitted(None));
-    };
-    if key != "reference" {
-        return Err(Stop::Unusual);
-    }
-    let reference = read_number(reader)?;
-    let reply = read_placed(alloc, reader, depth, reference)?;
-    Ok(reply)
+    let place = read_place(alloc, reader, depth)?;
+    Ok(Reply::Admitted(place))
+}
+
+// The reply to a change, behind its kind.
+fn read_changed(alloc: Global, reader: &mut Quick<'_>, depth: usize) -> Result<Reply, Stop>
+    ensures { IfOk result (λ reply. MakesReply depth
+        (put (codes "kind") (string (codes "changed")) no_members) reply reader.old reader.new) }
+{
+    let place = read_place(alloc, reader, depth)?;
+    Ok(Reply::Changed(place))
 }
 
 // The reply to a skip, behind its kind.
@@ -169,6 +191,7 @@ fn read_kind(alloc: Global, reader: &mut Quick<'_>, depth: usize, kind: &str) ->
 {
     match kind {
         "admitted" => read_admitted(alloc, reader, depth),
+        "changed" => read_changed(alloc, reader, depth),
         "skipped" => read_skipped(reader),
         "refused" => read_refused(reader),
         _ => read_plain(reader, kind),

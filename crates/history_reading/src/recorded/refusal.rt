@@ -41,6 +41,9 @@ fn plain_refusal(number: u64) -> Option<Refusal>
         18 => Refusal::BadLength,
         19 => Refusal::ReservesFull,
         20 => Refusal::BadBackoff,
+        21 => Refusal::OtherKind,
+        22 => Refusal::NotUnsolicited,
+        23 => Refusal::TooShort,
         _ => return None,
     })
 }

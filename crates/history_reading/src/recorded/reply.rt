@@ -1,8 +1,8 @@
 //! One reply of a history.
 
 ghost use Rattle.std.specs.Prelude.{◌≡◌, IfOk, Some};
-ghost use Rattle.history_reading.specs.Replies.{placed_reply, admitted_reply, map_of, map_at, map_reply, skipped_reply};
-ghost use Rattle.history_reading.specs.Replies.{flow_reply, u64_if, refused_reply, reply_of};
+ghost use Rattle.history_reading.specs.Replies.{placement_of, place_of, admitted_reply, changed_reply, map_of, map_at};
+ghost use Rattle.history_reading.specs.Replies.{map_reply, skipped_reply, flow_reply, u64_if, refused_reply, reply_of};
 
 use super::numbers::{numbers_u16, numbers_u32};
 use super::refusal::refusal_with;
@@ -12,9 +12,10 @@ use map_codec::{DecodeFault, WireMap, decode};
 use sched_calls::{ByteCounts, FrameMap, Placement, Reply, Starts};
 use std::alloc::{AllocError, Global};
 
-#[tactic(auto, unfolding(crate::specs::Replies::placed_reply))]
-fn placed_reply<T: Tree>(alloc: Global, value: &T) -> Result<Option<Reply>, AllocError>
-    ensures { IfOk result (λ reply. reply ≡ placed_reply (T.shown value.now)) }
+// The placement whose reference and starts stand there.
+#[tactic(auto, unfolding(crate::specs::Replies::placement_of))]
+fn placement_of<T: Tree>(alloc: Global, value: &T) -> Result<Option<Placement>, AllocError>
+    ensures { IfOk result (λ placement. placement ≡ placement_of (T.shown value.now)) }
 {
     let Some(reference) = number_u64(value, "reference") else {
         return Ok(None);
@@ -22,21 +23,44 @@ fn placed_reply<T: Tree>(alloc: Global, value: &T) -> Result<Option<Reply>, Allo
     let Some(starts) = numbers_u16(alloc, value, "starts")? else {
         return Ok(None);
     };
-    Ok(Some(Reply::Admitted(Some(Placement {
+    Ok(Some(Placement {
         reference,
         starts: Starts::from_vec(starts),
-    }))))
+    }))
+}
+
+// The place of a flow: a reference and starts, or neither.
+#[tactic(auto, unfolding(crate::specs::Replies::place_of))]
+fn place_of<T: Tree>(alloc: Global, value: &T) -> Result<Option<Option<Placement>>, AllocError>
+    ensures { IfOk result (λ place. place ≡ place_of (T.shown value.now)) }
+{
+    if member(value, "reference").is_none() && member(value, "starts").is_none() {
+        return Ok(Some(None));
+    }
+    let Some(placement) = placement_of(alloc, value)? else {
+        return Ok(None);
+    };
+    Ok(Some(Some(placement)))
 }
 
 #[tactic(auto, unfolding(crate::specs::Replies::admitted_reply))]
 fn admitted_reply<T: Tree>(alloc: Global, value: &T) -> Result<Option<Reply>, AllocError>
     ensures { IfOk result (λ reply. reply ≡ admitted_reply (T.shown value.now)) }
 {
-    if member(value, "reference").is_some() || member(value, "starts").is_some() {
-        placed_reply(alloc, value)
-    } else {
-        Ok(Some(Reply::Admitted(None)))
-    }
+    let Some(place) = place_of(alloc, value)? else {
+        return Ok(None);
+    };
+    Ok(Some(Reply::Admitted(place)))
+}
+
+#[tactic(auto, unfolding(crate::specs::Replies::changed_reply))]
+fn changed_reply<T: Tree>(alloc: Global, value: &T) -> Result<Option<Reply>, AllocError>
+    ensures { IfOk result (λ reply. reply ≡ changed_reply (T.shown value.now)) }
+{
+    let Some(place) = place_of(alloc, value)? else {
+        return Ok(None);
+    };
+    Ok(Some(Reply::Changed(place)))
 }
 
 /// The MAP of which these bytes are the payload.
@@ -150,6 +174,7 @@ pub fn reply_of<T: Tree>(alloc: Global, value: &T) -> Result<Option<Reply>, Allo
         "flow" => flow_reply(value),
         "refused" => refused_reply(value),
         "reserved" => Some(Reply::Reserved),
+        "changed" => return changed_reply(alloc, value),
         _ => None,
     })
 }

@@ -6,7 +6,7 @@ ghost use Rattle.sched_calls.specs.declared.amount.Amount.TheVariants.{Bytes, Sl
 ghost use Rattle.sched_calls.specs.declared.spec.FlowSpec.TheVariants.{Unsolicited, Polled, BestEffort};
 ghost use Rattle.sched_calls.specs.declared.opportunity.Usage.TheVariants.{Initial, Station};
 ghost use Rattle.history_writing.specs.Fits.{CallFits};
-ghost use Rattle.history_writing.specs.Json.{count, flow_data, call_data};
+ghost use Rattle.history_writing.specs.Json.{count, flow_data, request_data, parameters_data, call_data};
 ghost use Rattle.history_writing.specs.Tokens.{tokens_of};
 
 use super::count::{put_count, put_name};
@@ -97,14 +97,14 @@ fn put_flow(out: &mut Writer, flow: FlowSpec) -> Result<(), AllocError>
     }
 }
 
-#[tactic(auto, unfolding(crate::specs::Json::call_data))]
-fn put_admit(out: &mut Writer, sid: u16, flow: FlowSpec) -> Result<(), AllocError>
+// Writes a call of this name with the parameters of a flow.
+fn put_parameters(out: &mut Writer, name: &str, sid: u16, flow: FlowSpec) -> Result<(), AllocError>
     ensures ok { OnOk result (out.new.tokens
-        ≡ out.old.tokens ++ tokens_of (call_data (Call.Admit sid flow))) }
+        ≡ out.old.tokens ++ tokens_of (parameters_data name.now sid flow)) }
     ensures before { out.new.before ≡ out.old.before }
 {
     out.begin_object()?;
-    put_name(out, "call", "admit")?;
+    put_name(out, "call", name)?;
     out.key("flow")?;
     put_flow(out, flow)?;
     put_count(out, "sid", sid as u64)?;
@@ -151,41 +151,41 @@ fn put_reserve(out: &mut Writer, usage: Usage, slots: u32) -> Result<(), AllocEr
     }
 }
 
-#[tactic(auto, unfolding(crate::specs::Json::call_data))]
 fn put_bytes_asked(
     out: &mut Writer,
+    name: &str,
     receiver: u8,
     sid: u16,
     bytes: u32,
     heard: u64,
 ) -> Result<(), AllocError>
     ensures ok { OnOk result (out.new.tokens
-        ≡ out.old.tokens ++ tokens_of (call_data (Call.Ask receiver sid (Bytes bytes) heard))) }
+        ≡ out.old.tokens ++ tokens_of (request_data name.now receiver sid (Bytes bytes) heard)) }
     ensures before { out.new.before ≡ out.old.before }
 {
     out.begin_object()?;
     put_count(out, "bytes", bytes as u64)?;
-    put_name(out, "call", "ask")?;
+    put_name(out, "call", name)?;
     put_count(out, "heard", heard)?;
     put_count(out, "receiver", receiver as u64)?;
     put_count(out, "sid", sid as u64)?;
     out.end_object()
 }
 
-#[tactic(auto, unfolding(crate::specs::Json::call_data))]
 fn put_slots_asked(
     out: &mut Writer,
+    name: &str,
     receiver: u8,
     sid: u16,
     slots: u32,
     heard: u64,
 ) -> Result<(), AllocError>
     ensures ok { OnOk result (out.new.tokens
-        ≡ out.old.tokens ++ tokens_of (call_data (Call.Ask receiver sid (Slots slots) heard))) }
+        ≡ out.old.tokens ++ tokens_of (request_data name.now receiver sid (Slots slots) heard)) }
     ensures before { out.new.before ≡ out.old.before }
 {
     out.begin_object()?;
-    put_name(out, "call", "ask")?;
+    put_name(out, "call", name)?;
     put_count(out, "heard", heard)?;
     put_count(out, "receiver", receiver as u64)?;
     put_count(out, "sid", sid as u64)?;
@@ -193,22 +193,22 @@ fn put_slots_asked(
     out.end_object()
 }
 
-// Writes a request, with its bytes or its minislots.
-#[tactic(auto, unfolding(crate::specs::Json::call_data))]
-fn put_ask(
+// Writes a request of this name, with its bytes or its minislots.
+fn put_request(
     out: &mut Writer,
+    name: &str,
     receiver: u8,
     sid: u16,
     amount: Amount,
     heard: u64,
 ) -> Result<(), AllocError>
     ensures ok { OnOk result (out.new.tokens
-        ≡ out.old.tokens ++ tokens_of (call_data (Call.Ask receiver sid amount heard))) }
+        ≡ out.old.tokens ++ tokens_of (request_data name.now receiver sid amount heard)) }
     ensures before { out.new.before ≡ out.old.before }
 {
     match amount {
-        Amount::Bytes(bytes) => put_bytes_asked(out, receiver, sid, bytes, heard),
-        Amount::Slots(slots) => put_slots_asked(out, receiver, sid, slots, heard),
+        Amount::Bytes(bytes) => put_bytes_asked(out, name, receiver, sid, bytes, heard),
+        Amount::Slots(slots) => put_slots_asked(out, name, receiver, sid, slots, heard),
     }
 }
 
@@ -262,19 +262,28 @@ pub fn put_call(out: &mut Writer, call: Call) -> Result<(), AllocError>
     ensures fits { CallFits call }
 {
     match call {
-        Call::Admit(sid, flow) => put_admit(out, sid, flow),
+        Call::Admit(sid, flow) => put_parameters(out, "admit", sid, flow),
         Call::Remove(sid) => put_numbered(out, "remove", "sid", sid as u64),
         Call::Ask {
             receiver,
             sid,
             amount,
             heard,
-        } => put_ask(out, receiver, sid, amount, heard),
+        } => put_request(out, "ask", receiver, sid, amount, heard),
         Call::Heard { receiver, upto } => put_heard(out, receiver, upto),
         Call::Build { now } => put_numbered(out, "build", "now", now),
         Call::Skip { now } => put_numbered(out, "skip", "now", now),
         Call::Status(sid) => put_numbered(out, "status", "sid", sid as u64),
         Call::Reserve { usage, slots } => put_reserve(out, usage, slots),
         Call::Header(header) => put_header(out, header),
+        Call::Replace {
+            receiver,
+            sid,
+            amount,
+            heard,
+        } => put_request(out, "replace", receiver, sid, amount, heard),
+        Call::Change(sid, flow) => put_parameters(out, "change", sid, flow),
+        Call::Rest(sid) => put_numbered(out, "rest", "sid", sid as u64),
+        Call::Wake(sid) => put_numbered(out, "wake", "sid", sid as u64),
     }
 }

@@ -18,14 +18,14 @@ use std::alloc::AllocError;
 use std::str;
 
 #[tactic(auto, unfolding(crate::specs::Json::placed_data))]
-fn put_placed(out: &mut Writer, placement: &Placement) -> Result<(), AllocError>
+fn put_placed(out: &mut Writer, kind: &str, placement: &Placement) -> Result<(), AllocError>
     ensures ok { OnOk result
-        (out.new.tokens ≡ out.old.tokens ++ tokens_of (placed_data placement.now)) }
+        (out.new.tokens ≡ out.old.tokens ++ tokens_of (placed_data kind.now placement.now)) }
     ensures before { out.new.before ≡ out.old.before }
     ensures fits { OnOk result (PlacementFits (Some placement.now)) }
 {
     out.begin_object()?;
-    put_name(out, "kind", "admitted")?;
+    put_name(out, "kind", kind)?;
     put_count(out, "reference", placement.reference)?;
     put_offsets(out, "starts", placement.starts.as_slice())?;
     out.end_object()
@@ -130,7 +130,9 @@ pub fn put_reply(out: &mut Writer, reply: &Reply) -> Result<(), AllocError>
 {
     match reply {
         Reply::Admitted(None) => put_plain(out, "admitted"),
-        Reply::Admitted(Some(placement)) => put_placed(out, placement),
+        Reply::Admitted(Some(placement)) => put_placed(out, "admitted", placement),
+        Reply::Changed(None) => put_plain(out, "changed"),
+        Reply::Changed(Some(placement)) => put_placed(out, "changed", placement),
         Reply::Removed => put_plain(out, "removed"),
         Reply::Taken => put_plain(out, "taken"),
         Reply::Noted => put_plain(out, "noted"),

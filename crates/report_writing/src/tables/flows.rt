@@ -3,7 +3,7 @@
 ghost use Rattle.std.specs.Prelude.{◌≡◌, ◌++◌, flat_map, OnOk};
 ghost use Rattle.report_writing.specs.Gathered.{AreFew};
 ghost use Rattle.report_writing.specs.Flows.{AreOrdered, told_of, life_line, order_text, columns_text};
-ghost use Rattle.report_writing.specs.Flows.{left_out_text, flows_text};
+ghost use Rattle.report_writing.specs.Flows.{flows_heading, left_out_text, flows_text};
 
 use crate::tables::lives::push_life;
 use crate::text::push_decimal;
@@ -40,13 +40,18 @@ fn told_of(lives: &[LifeNumbers], all: bool) -> &[LifeNumbers]
 }
 
 // The lines of these lives.
-fn push_lives(words: &mut Vec<u8>, ticks: u32, lives: &[LifeNumbers]) -> Result<(), AllocError>
+fn push_lives(
+    words: &mut Vec<u8>,
+    ticks: u32,
+    replaced: bool,
+    lives: &[LifeNumbers],
+) -> Result<(), AllocError>
     requires { AreFew lives.now }
     ensures { OnOk result (words.new.items
-        ≡ words.old.items ++ flat_map (life_line ticks) lives.now) }
+        ≡ words.old.items ++ flat_map (life_line ticks replaced) lives.now) }
 {
     for life in lives {
-        push_life(words, ticks, life)?;
+        push_life(words, ticks, replaced, life)?;
     }
     Ok(())
 }
@@ -63,17 +68,31 @@ fn push_order(words: &mut Vec<u8>, all: bool) -> Result<(), AllocError>
     }
 }
 
+// The names of the columns.
+#[tactic(auto, unfolding(crate::specs::Flows::flows_heading))]
+fn push_heading(words: &mut Vec<u8>, replaced: bool) -> Result<(), AllocError>
+    ensures { OnOk result (words.new.items ≡ words.old.items ++ flows_heading replaced) }
+{
+    if replaced {
+        words.extend_from_slice(
+            b" SID kind   asked/s granted ceiling  asks wait drop repl  middle     p99    most\n",
+        )
+    } else {
+        words.extend_from_slice(
+            b" SID kind   asked/s  granted  ceiling   asks wait drop  middle     p99    most\n",
+        )
+    }
+}
+
 // What the columns are.
 #[tactic(auto, unfolding(crate::specs::Flows::columns_text))]
-fn push_columns(words: &mut Vec<u8>) -> Result<(), AllocError>
-    ensures { OnOk result (words.new.items ≡ words.old.items ++ columns_text) }
+fn push_columns(words: &mut Vec<u8>, replaced: bool) -> Result<(), AllocError>
+    ensures { OnOk result (words.new.items ≡ words.old.items ++ columns_text replaced) }
 {
     words.extend_from_slice(
         b"bits per second asked, granted and at most; delays in milliseconds\n",
     )?;
-    words.extend_from_slice(
-        b" SID kind   asked/s  granted  ceiling   asks wait drop  middle     p99    most\n",
-    )
+    push_heading(words, replaced)
 }
 
 // Says how many lives there are, where some are left out.
@@ -94,17 +113,19 @@ fn push_left_out(words: &mut Vec<u8>, all: bool, lives: usize) -> Result<(), All
 pub(crate) fn push_flows(
     words: &mut Vec<u8>,
     ticks: u32,
+    replaced: bool,
     lives: &[LifeNumbers],
     all: bool,
 ) -> Result<(), AllocError>
     requires { AreFew lives.now }
-    ensures { OnOk result (words.new.items ≡ words.old.items ++ flows_text ticks all lives.now) }
+    ensures { OnOk result (words.new.items
+        ≡ words.old.items ++ flows_text ticks replaced all lives.now) }
 {
     if lives.is_empty() {
         return Ok(());
     }
     push_order(words, all)?;
-    push_columns(words)?;
-    push_lives(words, ticks, told_of(lives, all))?;
+    push_columns(words, replaced)?;
+    push_lives(words, ticks, replaced, told_of(lives, all))?;
     push_left_out(words, all, lives.len())
 }

@@ -1,9 +1,10 @@
 //! The requests by the rank in which they were served.
 
 ghost use Rattle.std.specs.Prelude.{◌≡◌, ◌++◌, flat_map, OnOk};
-ghost use Rattle.report_writing.specs.Tables.{rank_title, rank_counts, rank_delays, rank_line, ranks_table, ranks_text};
+ghost use Rattle.report_writing.specs.Tables.{rank_title, replaced_column, rank_counts, rank_delays, rank_line};
+ghost use Rattle.report_writing.specs.Tables.{ranks_heading, ranks_table, ranks_text};
 
-use crate::text::{push_decimal, push_ms, push_number};
+use crate::text::{narrower, push_decimal, push_ms, push_number};
 use sched_report::{POLLED, RankTold};
 use std::alloc::AllocError;
 
@@ -19,17 +20,33 @@ fn push_title(words: &mut Vec<u8>, rank: u8) -> Result<(), AllocError>
     push_decimal(words, u64::from(rank))
 }
 
+// How many requests were replaced, in a report that tells it.
+pub(crate) fn push_replaced(
+    words: &mut Vec<u8>,
+    replaced: bool,
+    number: u128,
+) -> Result<(), AllocError>
+    ensures { OnOk result (words.new.items ≡ words.old.items ++ replaced_column replaced number) }
+{
+    if replaced {
+        push_number(words, number, 4)
+    } else {
+        Ok(())
+    }
+}
+
 // The bytes that a rank was granted, and its requests.
 #[tactic(auto, unfolding(crate::specs::Tables::rank_counts))]
-fn push_counts(words: &mut Vec<u8>, told: &RankTold) -> Result<(), AllocError>
-    ensures { OnOk result (words.new.items ≡ words.old.items ++ rank_counts told.now) }
+fn push_counts(words: &mut Vec<u8>, replaced: bool, told: &RankTold) -> Result<(), AllocError>
+    ensures { OnOk result (words.new.items ≡ words.old.items ++ rank_counts replaced told.now) }
 {
     let sums = told.numbers.sums;
     push_number(words, sums.granted, 9)?;
-    push_number(words, sums.asks, 7)?;
-    push_number(words, sums.served, 7)?;
-    push_number(words, sums.waiting, 5)?;
-    push_number(words, sums.dropped, 5)
+    push_number(words, sums.asks, narrower(replaced, 7))?;
+    push_number(words, sums.served, narrower(replaced, 7))?;
+    push_number(words, sums.waiting, narrower(replaced, 5))?;
+    push_number(words, sums.dropped, narrower(replaced, 5))?;
+    push_replaced(words, replaced, sums.replaced)
 }
 
 // The delays of those that were served.
@@ -46,35 +63,65 @@ fn push_delays(words: &mut Vec<u8>, ticks: u32, told: &RankTold) -> Result<(), A
 
 // The line of a rank.
 #[tactic(auto, unfolding(crate::specs::Tables::rank_line))]
-fn push_rank(words: &mut Vec<u8>, ticks: u32, told: &RankTold) -> Result<(), AllocError>
-    ensures { OnOk result (words.new.items ≡ words.old.items ++ rank_line ticks told.now) }
+fn push_rank(
+    words: &mut Vec<u8>,
+    ticks: u32,
+    replaced: bool,
+    told: &RankTold,
+) -> Result<(), AllocError>
+    ensures { OnOk result (words.new.items ≡ words.old.items ++ rank_line ticks replaced told.now) }
 {
     push_title(words, told.rank)?;
-    push_counts(words, told)?;
+    push_counts(words, replaced, told)?;
     push_delays(words, ticks, told)?;
     words.extend_from_slice(b"\n")
 }
 
 // The lines of these ranks.
-fn push_lines(words: &mut Vec<u8>, ticks: u32, ranks: &[RankTold]) -> Result<(), AllocError>
+fn push_lines(
+    words: &mut Vec<u8>,
+    ticks: u32,
+    replaced: bool,
+    ranks: &[RankTold],
+) -> Result<(), AllocError>
     ensures { OnOk result (words.new.items
-        ≡ words.old.items ++ flat_map (rank_line ticks) ranks.now) }
+        ≡ words.old.items ++ flat_map (rank_line ticks replaced) ranks.now) }
 {
     for told in ranks {
-        push_rank(words, ticks, told)?;
+        push_rank(words, ticks, replaced, told)?;
     }
     Ok(())
 }
 
+// What the columns are.
+#[tactic(auto, unfolding(crate::specs::Tables::ranks_heading))]
+fn push_heading(words: &mut Vec<u8>, replaced: bool) -> Result<(), AllocError>
+    ensures { OnOk result (words.new.items ≡ words.old.items ++ ranks_heading replaced) }
+{
+    if replaced {
+        words.extend_from_slice(
+            b"\nrank       bytes   asks served wait drop repl   least  middle     p99    most ms\n",
+        )
+    } else {
+        words.extend_from_slice(
+            b"\nrank       bytes    asks  served  wait  drop   least  middle     p99    most ms\n",
+        )
+    }
+}
+
 // The table of these ranks.
 #[tactic(auto, unfolding(crate::specs::Tables::ranks_table))]
-fn push_table(words: &mut Vec<u8>, ticks: u32, ranks: &[RankTold]) -> Result<(), AllocError>
-    ensures { OnOk result (words.new.items ≡ words.old.items ++ ranks_table ticks ranks.now) }
+fn push_table(
+    words: &mut Vec<u8>,
+    ticks: u32,
+    replaced: bool,
+    ranks: &[RankTold],
+) -> Result<(), AllocError>
+    ensures { OnOk result (words.new.items
+        ≡ words.old.items ++ ranks_table ticks replaced ranks.now) }
 {
-    words.extend_from_slice(
-        b"\nrank       bytes    asks  served  wait  drop   least  middle     p99    most ms\n",
-    )?;
-    push_lines(words, ticks, ranks)
+    push_heading(words, replaced)?;
+    push_lines(words, ticks, replaced, ranks)
 }
 
 // The ranks that asked, from the one that is served first on.
@@ -82,12 +129,13 @@ fn push_table(words: &mut Vec<u8>, ticks: u32, ranks: &[RankTold]) -> Result<(),
 pub(crate) fn push_ranks(
     words: &mut Vec<u8>,
     ticks: u32,
+    replaced: bool,
     ranks: &[RankTold],
 ) -> Result<(), AllocError>
-    ensures { OnOk result (words.new.items ≡ words.old.items ++ ranks_text ticks ranks.now) }
+    ensures { OnOk result (words.new.items ≡ words.old.items ++ ranks_text ticks replaced ranks.now) }
 {
     if ranks.is_empty() {
         return Ok(());
     }
-    push_table(words, ticks, ranks)
+    push_table(words, ticks, replaced, ranks)
 }

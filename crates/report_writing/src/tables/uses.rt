@@ -4,6 +4,7 @@ ghost use Rattle.std.specs.Prelude.{◌≡◌, ◌<◌, ◌^◌, ◌++◌, OnOk}
 ghost use Rattle.sched_report.specs.Uses.{all_slots};
 ghost use Rattle.report_writing.specs.Tables.{reach_text, time_text, no_frames_text, head_text, use_cells, call_cells};
 ghost use Rattle.report_writing.specs.Tables.{use_line, call_line, first_uses, last_uses, last_calls, uses_text};
+ghost use Rattle.report_writing.specs.Tables.{call_line_above_0, flow_calls};
 
 use crate::text::{
     microseconds, push_decimal, push_left, push_number, push_percent, push_spaces, push_time,
@@ -186,6 +187,28 @@ fn push_last_calls(words: &mut Vec<u8>, calls: &Calls) -> Result<(), AllocError>
     push_call_alone(words, b"status", calls.status)
 }
 
+// How many calls of a kind there were, where there were any.
+fn push_call_above_0(words: &mut Vec<u8>, name: &[u8], count: u64) -> Result<(), AllocError>
+    ensures { OnOk result (words.new.items
+        ≡ words.old.items ++ call_line_above_0 name.now count) }
+{
+    if count == 0 {
+        return Ok(());
+    }
+    push_call_alone(words, name, count)
+}
+
+// The calls that change what flows have or wait for.
+#[tactic(auto, unfolding(crate::specs::Tables::flow_calls))]
+fn push_flow_calls(words: &mut Vec<u8>, calls: &Calls) -> Result<(), AllocError>
+    ensures { OnOk result (words.new.items ≡ words.old.items ++ flow_calls calls.now) }
+{
+    push_call_above_0(words, b"replace", calls.replace)?;
+    push_call_above_0(words, b"change", calls.change)?;
+    push_call_above_0(words, b"rest", calls.rest)?;
+    push_call_above_0(words, b"wake", calls.wake)
+}
+
 // The use of minislots, and beside it the calls.
 #[tactic(auto, unfolding(crate::specs::Tables::uses_text))]
 pub(crate) fn push_uses(words: &mut Vec<u8>, slots: &Slots, calls: &Calls) -> Result<(), AllocError>
@@ -195,5 +218,6 @@ pub(crate) fn push_uses(words: &mut Vec<u8>, slots: &Slots, calls: &Calls) -> Re
     words.extend_from_slice(b"\nuse              minislots       %        calls\n")?;
     push_first_uses(words, slots, all, calls)?;
     push_last_uses(words, slots, all, calls)?;
-    push_last_calls(words, calls)
+    push_last_calls(words, calls)?;
+    push_flow_calls(words, calls)
 }

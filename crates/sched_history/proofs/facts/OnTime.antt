@@ -11,9 +11,10 @@ use Rattle.sched_calls.specs.FlowSpec.{interval_frames}
 use Rattle.flow_book.specs.Flows.{LiveFlow}
 use Rattle.flow_book.specs.Shown.{is_shown}
 use Rattle.periodic.specs.declared.placement.Spot.{Spot}
-use Rattle.periodic.specs.Placement.{Placed, phase_of, starts_in, spot_at, spots_of, spots_in}
+use Rattle.periodic.specs.Placement.{Placed, phase_of, starts_in, spot_at, spots_of, spots_in, due_of, due_in}
 use Rattle.periodic.proofs.Frames.{IsStartIn, starts-here, in-cycle}
 use Rattle.periodic.proofs.Joined.{all-map}
+use Rattle.periodic.proofs.Resting.{all-due-of}
 use Rattle.map_build.specs.EachAfter.{EachAfter}
 use Rattle.sched_calls.specs.declared.opportunity.Header.{Header}
 use Rattle.sched_calls.specs.declared.opportunity.Usage.{Usage}
@@ -78,12 +79,18 @@ module _ (c : Config) (conf : IsLawful c) (table : List Placed) (start : ℕ) (a
         },
       )))
 
-  spot_on_time : (s : Spot) (e : Element) → Contains (spots_in c (start / c.frame) table) s → e.sid ≡ s.sid
+  -- so is what it is to have there
+  due_on_time : (flow : Placed) → Contains table flow → AllByRecursion IsSpotOnTime (due_of c (start / c.frame) flow)
+  due_on_time flow live =
+      all-due-of c (start / c.frame) IsSpotOnTime flow (λ at rests on e sid offset. on e sid offset)
+      (flow_on_time flow live)
+
+  spot_on_time : (s : Spot) (e : Element) → Contains (due_in c (start / c.frame) table) s → e.sid ≡ s.sid
       → e.offset ≡ s.offset
       → (flow : Placed) × IsOnTime c table start e flow
   spot_on_time s e member sid offset =
-      let spots : List Spot = spots_in c (start / c.frame) table in
-      let all = all-flat_map IsSpotOnTime (spots_of c (start / c.frame)) table flow_on_time in
+      let spots : List Spot = due_in c (start / c.frame) table in
+      let all = all-flat_map IsSpotOnTime (due_of c (start / c.frame)) table due_on_time in
       All-contains IsSpotOnTime spots s (All-from_recursion IsSpotOnTime spots all) member e sid offset
 
 -- what is said of an element with its bytes in a MAP that starts there
@@ -107,8 +114,8 @@ offer-is : (c : Config) (offset slots place : ℕ) (usage : Usage)
 offer-is c offset slots place Initial = refl
 offer-is c offset slots place (Station sid) = refl
 
-module _ (c : Config) (d : Demand) (table : List Placed) (same : d.spots ≡ spots_in c (d.start / c.frame) table)
-    (spots_timely : (s : Spot) (e : Element) → Contains (spots_in c (d.start / c.frame) table) s → e.sid ≡ s.sid
+module _ (c : Config) (d : Demand) (table : List Placed) (same : d.spots ≡ due_in c (d.start / c.frame) table)
+    (spots_timely : (s : Spot) (e : Element) → Contains (due_in c (d.start / c.frame) table) s → e.sid ≡ s.sid
     → e.offset ≡ s.offset
     → (flow : Placed) × IsOnTime c table d.start e flow) where
   timely-spot : (s : Spot) (e : Element) → Contains d.spots s → e.sid ≡ s.sid → e.offset ≡ s.offset

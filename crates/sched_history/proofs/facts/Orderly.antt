@@ -1,5 +1,5 @@
 -- Every MAP of a legal history is orderly: at most 240 elements, and a front of disjoint ascending allocations.
-use Rattle.std.proofs.Common.{ℕ, ◌/◌, ◌%◌, ◌<◌, ◌^◌, List}
+use Rattle.std.proofs.Common.{ℕ, ◌/◌, ◌%◌, ◌<◌, ◌^◌, Bool, true, false, if◌then◌else◌, List}
 use Rattle.std.proofs.Common.{[], ◌∷◌, ◌++◌, sym, ap, subst, arith}
 use Rattle.std.specs.List.{AllByRecursion}
 use Rattle.std.proofs.lemmas.List.Elements.{All-contains, All-from_recursion}
@@ -9,7 +9,7 @@ use Rattle.minislots.proofs.Bounds.{bounds_of}
 use Rattle.flow_book.specs.Flows.{LiveFlow}
 use Rattle.flow_book.proofs.Order.{all-push}
 use Rattle.periodic.specs.declared.placement.Spot.{Spot}
-use Rattle.periodic.specs.Placement.{Placed, starts_in, spot_at, spots_of, spots_in}
+use Rattle.periodic.specs.Placement.{Placed, spot_at, poll_at, due_starts, due_at, due_of, due_in}
 use Rattle.periodic.proofs.Joined.{all-map}
 use Rattle.sched_calls.specs.declared.frame_map.FrameMap.{FrameMap}
 use Rattle.map_build.specs.Plan.{Demand}
@@ -28,7 +28,7 @@ use Rattle.map_build.proofs.SameSpots.{all-members}
 use Rattle.sched_history.proofs.lists.Members.{all-flat_map}
 use Rattle.sched_history.proofs.plans.Fronts.{HasFront-plan, IsUnasked-plan, length-bytes_of_plan}
 use Rattle.sched_history.proofs.reserves.GoodReserves.{MayWait-legal, HaveStationSids-legal}
-use Rattle.sched_history.proofs.placements.SpotsFew.{spots-few}
+use Rattle.sched_history.proofs.placements.SpotsFew.{due-few-legal}
 
 -- the SIDs of the live flows fit an element
 pub flows_of-in_range : (c : Config) (h : List Entry) → HaveSids (flows_of c h)
@@ -41,15 +41,21 @@ table_of-in_range h =
     rw sids-range.2 (filter_map-below (λ (p : Placed). p.sid) (placed_at h) (placed_at-sid h) (2 ^ 14) 1 sids-range.0
     (omega (arith, sids-range.1)))
 
+due-sid : (c : Config) (flow : Placed) (start : ℕ) (rests : Bool) → flow.sid < 2 ^ 14
+    → (if rests then poll_at c flow start else spot_at c flow start).sid < 2 ^ 14
+due-sid c flow start true low = low
+due-sid c flow start false low = low
+
 -- and those of their spots
-pub spots_in-in_range : (c : Config) (k : ℕ) (h : List Entry) → HaveSpotSids (spots_in c k (table_of h))
-spots_in-in_range c k h =
+pub due_in-in_range : (c : Config) (k : ℕ) (h : List Entry) → HaveSpotSids (due_in c k (table_of h))
+due_in-in_range c k h =
     let fits : Spot → Type 0 = λ s. s.sid < 2 ^ 14 in
-    all-flat_map fits (spots_of c k) (table_of h) (λ flow member.
+    all-flat_map fits (due_of c k) (table_of h) (λ flow member.
     let sid : flow.sid < 2 ^ 14 = All-contains (λ (p : Placed). p.sid < 2 ^ 14) (table_of h) flow
     (All-from_recursion (λ (p : Placed). p.sid < 2 ^ 14) (table_of h) (table_of-in_range h)) member in
-    let starts : List ℕ = starts_in c flow.spec flow.placement (k % c.cycle) in
-    all-map fits (spot_at c flow) starts (all-members (λ start. flow.sid < 2 ^ 14) starts (λ start here. sid)))
+    let starts : List ℕ = due_starts c flow (k % c.cycle) in
+    all-map fits (due_at c flow) starts (all-members (λ start. fits (due_at c flow start)) starts
+    (λ start here. due-sid c flow start flow.rests sid)))
 
 module _ (c : Config) (conf : IsLawful c) where
   -- the next MAP is orderly
@@ -59,14 +65,14 @@ module _ (c : Config) (conf : IsLawful c) where
       let bounds : HasBounds c = bounds_of c conf in
       subst (IsOrderly c) (sym next.2) (record {
         within = few-elements c d next.0 bounds.bursts bounds.pending_most
-            (spots-few c conf (next_after c h / c.frame) h legal) (flows_of-channel c h) (MayWait-legal c h legal).few
+            (due-few-legal c conf (next_after c h / c.frame) h legal) (flows_of-channel c h) (MayWait-legal c h legal).few
             next.1;
         counted = length-bytes_of_plan c d next.0;
         unasked = IsUnasked-plan c d next.0;
         front = HasFront-plan c d next.0
             (omega (arith, bounds.frame_most)) bounds.requests_positive
             (flows_of-in_range c h)
-            (spots_in-in_range c (next_after c h / c.frame) h) (HaveStationSids-legal c h legal) next.1;
+            (due_in-in_range c (next_after c h / c.frame) h) (HaveStationSids-legal c h legal) next.1;
       })
 
   orderly_more : (h : List Entry) (e : Entry) → IsLegal c h → IsStep c h e.call e.reply

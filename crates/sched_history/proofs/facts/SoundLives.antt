@@ -1,20 +1,30 @@
 -- The live flows of a legal history: each was granted at most what it asked, within its rate ceiling.
-use Rattle.std.proofs.Common.{◌≡◌, ℕ, ◌+◌, List, [], ◌∷◌, ◌++◌, Option, None}
+use Rattle.std.proofs.Common.{◌≡◌, ℕ, ◌+◌, ◌≤◌, Bool, true, false, not, if◌then◌else◌, List, [], ◌∷◌, ◌++◌, length}
+use Rattle.std.proofs.Common.{drop, Option, None}
 use Rattle.std.proofs.Common.{Some, refl, sym, ap, ◌∙◌, subst, Contains, arith}
 use Rattle.std.specs.List.{AllByRecursion}
-use Rattle.std.specs.Option.{option_map}
-use Rattle.std.proofs.lemmas.List.{append-nil}
+use Rattle.std.specs.Option.{option_map, option_map_or}
+use Rattle.std.proofs.lemmas.Bool.Decides.{nat_tests}
+use Rattle.std.proofs.lemmas.List.{append-nil, drop_all}
 use Rattle.minislots.specs.declared.config.Config.{Config}
 use Rattle.flow_book.specs.declared.batches.Batches.{Batches}
-use Rattle.flow_book.specs.Flows.{LiveFlow}
+use Rattle.sched_calls.specs.declared.spec.FlowSpec.{FlowSpec}
+use Rattle.sched_calls.specs.FlowSpec.{rate_of, burst_of}
+use Rattle.flow_book.specs.declared.flow.Grant.{Grant}
+use Rattle.flow_book.specs.Flows.{LiveFlow, granted}
+use Rattle.flow_book.specs.Book.{has_ceiling_of}
+use Rattle.flow_book.specs.Ceiling.{KeepsCeiling}
 use Rattle.flow_book.specs.Entry.{IsSoundFlow}
 use Rattle.sched_calls.specs.declared.frame_map.FrameMap.{FrameMap}
 use Rattle.map_build.specs.declared.purpose.Allocation.{Allocation}
 use Rattle.map_build.specs.Plan.{Demand, grants_to}
+use Rattle.sched_calls.specs.declared.call.Call.{Call}
+use Rattle.sched_calls.specs.declared.call.Call.TheVariants as calls
 use Rattle.sched_calls.specs.declared.reply.Reply.{Reply}
 use Rattle.sched_calls.specs.declared.reply.Reply.TheVariants as replies
 use Rattle.sched_calls.specs.declared.reply.Entry.{Entry}
-use Rattle.sched_history.specs.Life.{Turn, Begins, Ends, turn_by, asked_by, grants_by, grants_of_map}
+use Rattle.sched_history.specs.Life.{Admission, Turn, Begins, Ends, turn_by, added_by, replaced_by, change_by}
+use Rattle.sched_history.specs.Life.{grants_by, grants_of_map}
 use Rattle.sched_history.specs.Life.{Life, life_of, flow_in_life, sids, flows_of}
 use Rattle.sched_history.specs.Time.{next_after, ack_after}
 use Rattle.sched_history.specs.Reserves.{header_after}
@@ -23,14 +33,14 @@ use Rattle.sched_history.specs.Facts.{IsWithinAsked, IsWithinRate}
 use Rattle.sched_history.proofs.steps.LegalHistories as legal
 use Rattle.sched_history.proofs.steps.LegalHistories.{change_by_step, legal_induction}
 use Rattle.sched_history.proofs.lives.LivesAfter.{with_since, life_of-stays, life_of-begins, life_of-ends}
-use Rattle.sched_history.proofs.lives.FlowsAfter.{grown_by, asked_in-push, batches_in-push, grants_since-push}
+use Rattle.sched_history.proofs.lives.FlowsAfter.{grown_by, flow_in_life-more}
 use Rattle.sched_history.proofs.lists.Members.{IsImage, Contains-filter_map, all-chosen}
-use Rattle.sched_history.proofs.plans.SoundPlans.{sound_plan}
+use Rattle.sched_history.proofs.plans.SoundPlans.{IsSoundLife, sound_plan}
 use Rattle.sched_history.proofs.flows.MapGrants.{plan-HasBytes, grants_of_map-plan}
 
 -- the life of every SID is sound
 abbrev HasSoundLives : Config → List Entry → Type 0
-HasSoundLives c h = (sid : ℕ) (life : Life) → life_of sid h ≡ Some life → IsSoundFlow c (flow_in_life c sid life)
+HasSoundLives c h = (sid : ℕ) (life : Life) → life_of sid h ≡ Some life → IsSoundLife c (flow_in_life c sid life)
 
 -- a flow in a live SID's life
 flow_said : (c : Config) (sid : ℕ) (o : Option Life) (f : LiveFlow) → option_map (flow_in_life c sid) o ≡ Some f
@@ -55,23 +65,80 @@ flows_of-alone c h sid life lives g member same =
     ∙ (subst (λ s. flow_in_life c image.origin said.0 ≡ flow_in_life c s life) number
     (ap (flow_in_life c image.origin) them))
 
--- a flow is sound with more asked
-sound_asked : (c : Config) (f : LiveFlow) (more : ℕ) (batches : Batches) → IsSoundFlow c f
-    → IsSoundFlow c (record f { asked = f.asked + more; batches = batches })
-sound_asked c f more batches sound = record { within = omega (arith, sound.within); kept = sound.kept }
+within-then : (o : Option ℕ) (granted asked more : ℕ) → granted ≤ asked
+    → granted ≤ option_map_or (λ bytes. granted + bytes) o (asked + more)
+within-then None granted asked more le = omega (arith, le)
+within-then (Some bytes) granted asked more le = omega arith
+
+same-ceiling : (spec other : FlowSpec) → has_ceiling_of spec other ≡ true
+    → (rate_of spec ≡ rate_of other) × (burst_of spec ≡ burst_of other)
+same-ceiling spec other same = (grind (arith, nat_tests), grind (arith, nat_tests))
+
+-- the grants of a flow keep the ceiling of its parameters, of which so many came before its period
+abbrev Keeps : Config → List Grant → FlowSpec → ℕ → Type 0
+Keeps c grants spec earlier = KeepsCeiling c (rate_of spec) (burst_of spec) (drop earlier grants)
+
+keeps-given : (c : Config) (grants : List Grant) (spec other : FlowSpec) (earlier : ℕ) (same : Bool)
+    → has_ceiling_of spec other ≡ same → Keeps c grants spec earlier
+    → Keeps c grants other (if not same then length grants else earlier)
+keeps-given c grants spec other earlier true is keeps =
+    let ceiling = same-ceiling spec other is in rw (← ceiling.0, ← ceiling.1) keeps
+keeps-given c grants spec other earlier false is keeps =
+    rw (drop_all (length grants) grants (omega arith)) (λ some i j le within. absurd (omega arith))
+
+keeps-then : (c : Config) (grants : List Grant) (spec : FlowSpec) (earlier : ℕ) (o : Option Admission)
+    → Keeps c grants spec earlier
+    → Keeps c grants (option_map_or (λ a. a.spec) o spec)
+    (if option_map_or (λ a. not (has_ceiling_of spec a.spec)) o false then length grants else earlier)
+keeps-then c grants spec earlier None keeps = keeps
+keeps-then c grants spec earlier (Some a) keeps =
+    keeps-given c grants spec a.spec earlier (has_ceiling_of spec a.spec) refl keeps
+
+begun-then : (begins : Bool) (all earlier : ℕ) → earlier ≤ all → (if begins then all else earlier) ≤ all
+begun-then true all earlier le = omega arith
+begun-then false all earlier le = le
+
+-- a flow is sound with what an entry asks for it and gives to it
+sound_then : (c : Config) (f : LiveFlow) (given : Option Admission) (replaced : Option ℕ) (more : ℕ) (batches : Batches)
+    → IsSoundLife c f → IsSoundLife c (record f {
+      spec = option_map_or (λ a. a.spec) given f.spec;
+      asked = option_map_or (λ bytes. granted f + bytes) replaced (f.asked + more);
+      batches = batches;
+      earlier = if option_map_or (λ a. not (has_ceiling_of f.spec a.spec)) given false then length f.grants
+          else f.earlier;
+    })
+sound_then c f given replaced more batches is = record {
+  sound = record {
+    within = within-then replaced (granted f) f.asked more is.sound.within;
+    kept = keeps-then c f.grants f.spec f.earlier given is.sound.kept;
+  };
+  begun = begun-then (option_map_or (λ a. not (has_ceiling_of f.spec a.spec)) given false) (length f.grants) f.earlier
+      is.begun;
+}
+
+-- a flow whose grants a MAP has more of is sound
+sound_more : (c : Config) (f : LiveFlow) (more : ℕ) (batches : Batches) → IsSoundLife c f
+    → IsSoundLife c (record f { asked = f.asked + more; batches = batches })
+sound_more c f more batches is = record {
+  sound = record { within = omega (arith, is.sound.within); kept = is.sound.kept };
+  begun = is.begun;
+}
 
 -- a flow without grants is sound
-sound_new : (c : Config) (sid : ℕ) (life : Life) → life.since ≡ [] → IsSoundFlow c (flow_in_life c sid life)
-sound_new c sid life new = rw new (record { within = omega arith; kept = λ some i j le within. absurd (omega arith) })
+sound_new : (c : Config) (sid : ℕ) (life : Life) → life.since ≡ [] → IsSoundLife c (flow_in_life c sid life)
+sound_new c sid life new = rw new (record {
+  sound = record { within = omega arith; kept = λ some i j le within. absurd (omega arith) };
+  begun = omega arith;
+})
 
 ungranted : (sid : ℕ) (reply : Reply) → map_by reply ≡ None → grants_by sid reply ≡ []
 ungranted sid (replies.Built m) none = absurd (cc)
 ungranted sid reply none = refl
 
 module _ (c : Config) (h : List Entry) (sid : ℕ) (life : Life) (lives : life_of sid h ≡ Some life)
-    (sound : IsSoundFlow c (flow_in_life c sid life)) where
+    (sound : IsSoundLife c (flow_in_life c sid life)) where
   -- the grants of the next MAP keep a live flow sound
-  sound_map : (m : FrameMap) → IsNextMap c h m → IsSoundFlow c
+  sound_map : (m : FrameMap) → IsNextMap c h m → IsSoundLife c
       (record (flow_in_life c sid life) { grants = (flow_in_life c sid life).grants ++ grants_of_map sid m })
   sound_map m next =
       let plan : List Allocation = next.0 in
@@ -83,22 +150,31 @@ module _ (c : Config) (h : List Entry) (sid : ℕ) (life : Life) (lives : life_o
       (sound_plan c d (flow_in_life c sid life)
       (flows_of-alone c h sid life lives) [] plan next.1.each (rw append-nil sound))
 
-  -- the flow with the grants of an entry
-  abbrev granted_also : Entry → LiveFlow
-  granted_also e = record (flow_in_life c sid life) {
-    grants =
-        (flow_in_life c sid life).grants ++ grants_by sid e.reply;
-  }
-
-  sound_still : (e : Entry) → map_by e.reply ≡ None → IsSoundFlow c (grown_by c e (flow_in_life c sid life))
+  sound_still : (e : Entry) → map_by e.reply ≡ None → IsSoundLife c (grown_by c e (flow_in_life c sid life))
   sound_still e none =
-      sound_asked c (granted_also e) (asked_by c sid e.call e.reply) _ (rw (ungranted sid e.reply none, append-nil) sound)
+      rw (ungranted sid e.reply none, append-nil)
+      (sound_then c (flow_in_life c sid life) (change_by sid e.call e.reply) (replaced_by c sid e.call e.reply)
+      (added_by c sid e.call e.reply) _ sound)
+
+  -- a MAP answers no request, and no change
+  unasked : (call : Call) (m : FrameMap) → (replaced_by c sid call (replies.Built m) ≡ None)
+      × (change_by sid call (replies.Built m) ≡ None)
+  unasked (calls.Replace receiver other amount heard) m = (refl, refl)
+  unasked (calls.Change other spec) m = (refl, refl)
+  unasked call m = (refl, refl)
+
+  sound_built : (e : Entry) (m : FrameMap) → IsNextMap c h m → e.reply ≡ replies.Built m
+      → IsSoundLife c (grown_by c e (flow_in_life c sid life))
+  sound_built e m next is =
+      rw (is, (unasked e.call m).0, (unasked e.call m).1)
+      (sound_more c (record (flow_in_life c sid life) {
+        grants = (flow_in_life c sid life).grants ++ grants_of_map sid m;
+      }) (added_by c sid e.call (replies.Built m)) _ (sound_map m next))
 
   -- so does each legal entry
-  sound_grown : (e : Entry) → IsStep c h e.call e.reply → IsSoundFlow c (grown_by c e (flow_in_life c sid life))
+  sound_grown : (e : Entry) → IsStep c h e.call e.reply → IsSoundLife c (grown_by c e (flow_in_life c sid life))
   sound_grown e step = elim (change_by_step c h e.call e.reply step) [
-    | legal.Builds m next same ↦ sound_asked c (granted_also e) (asked_by c sid e.call e.reply) _
-        (rw (ap (grants_by sid) same) (sound_map m next))
+    | legal.Builds m next same ↦ sound_built e m next same
     | legal.Skips now start is first same ↦ sound_still e (ap map_by same)
     | legal.Stays still ↦ sound_still e still.0
   ]
@@ -107,17 +183,16 @@ module _ (c : Config) where
   -- a life that goes on
   goes_on : (h : List Entry) (e : Entry) (sid : ℕ) (old : Option Life) (life : Life) → life_of sid h ≡ old
       → option_map (with_since e) old ≡ Some life
-      → IsStep c h e.call e.reply → HasSoundLives c h → IsSoundFlow c (flow_in_life c sid life)
+      → IsStep c h e.call e.reply → HasSoundLives c h → IsSoundLife c (flow_in_life c sid life)
   goes_on h e sid None life was is step sound = absurd (cc)
   goes_on h e sid (Some old) life was is step sound =
       let them : with_since e old ≡ life = cc in
-      subst (λ l. IsSoundFlow c (flow_in_life c sid l)) them
-      (rw (asked_in-push c sid old.since e, batches_in-push c sid old.since e, grants_since-push sid old.since e)
-      (sound_grown c h sid old was (sound sid old was) e step))
+      subst (λ l. IsSoundLife c (flow_in_life c sid l)) them
+      (rw (flow_in_life-more c sid e old) (sound_grown c h sid old was (sound sid old was) e step))
 
   turned : (h : List Entry) (e : Entry) (sid : ℕ) (turn : Option Turn) (life : Life) → turn_by sid e.call e.reply ≡ turn
       → life_of sid (h ++ e ∷ []) ≡ Some life
-      → IsStep c h e.call e.reply → HasSoundLives c h → IsSoundFlow c (flow_in_life c sid life)
+      → IsStep c h e.call e.reply → HasSoundLives c h → IsSoundLife c (flow_in_life c sid life)
   turned h e sid None life is lives step sound = goes_on h e sid (life_of sid h) life refl
       (sym (life_of-stays sid h e is) ∙ lives) step sound
   turned h e sid (Some (Begins admission)) life is lives step sound =
@@ -141,7 +216,7 @@ module _ (c : Config) where
   flow_sound h sid f legal is =
       let said : (life : Life) × (life_of sid h ≡ Some life) × (flow_in_life c sid life ≡ f) =
       flow_said c sid (life_of sid h) f is in
-      subst (IsSoundFlow c) said.2 (lives_sound h legal sid said.0 said.1)
+      subst (IsSoundFlow c) said.2 (lives_sound h legal sid said.0 said.1).sound
 
   -- no live flow was granted more than it asked
   pub within_asked : (h : List Entry) → IsLegal c h → AllByRecursion IsWithinAsked (flows_of c h)

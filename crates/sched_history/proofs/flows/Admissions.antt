@@ -1,5 +1,5 @@
 -- The live flows and placements after an admission.
-use Rattle.std.proofs.Common.{◌≡◌, ◌≢◌, ℕ, ◌≤◌, List, [], ◌∷◌, ◌++◌, Option, None}
+use Rattle.std.proofs.Common.{◌≡◌, ◌≢◌, ℕ, ◌≤◌, false, List, [], ◌∷◌, ◌++◌, Option, None}
 use Rattle.std.proofs.Common.{Some, refl, sym, ap, ◌∙◌, arith, inl, inr}
 use Rattle.std.specs.Option.{option_map, option_and_then}
 use Rattle.std.proofs.lemmas.Bool.{cases_eq}
@@ -21,11 +21,13 @@ use Rattle.sched_history.proofs.lives.Finding.{sids-range, flow_at, placed_at, f
 use Rattle.sched_history.proofs.lives.FlowsAfter.{flow_at-stays, placed_at-stays}
 use Rattle.sched_history.proofs.flows.FlowCalls.{other_turn, own_turn, ungrown-map}
 
-put_in-flow : (f : LiveFlow) (flows : List LiveFlow) → put_in (λ f. f.sid) f flows ≡ with_flow f flows
+-- the two ways to put in a flow
+pub put_in-flow : (f : LiveFlow) (flows : List LiveFlow) → put_in (λ f. f.sid) f flows ≡ with_flow f flows
 put_in-flow f [] = refl
 put_in-flow f (g ∷ flows) = rw (put_in-flow f flows) refl
 
-put_in-placed : (p : Placed) (table : List Placed) → put_in (λ p. p.sid) p table ≡ with_placed p table
+-- and a placement
+pub put_in-placed : (p : Placed) (table : List Placed) → put_in (λ p. p.sid) p table ≡ with_placed p table
 put_in-placed p [] = refl
 put_in-placed p (q ∷ table) = rw (put_in-placed p table) refl
 
@@ -62,10 +64,10 @@ module _ (stamp : Stamp) (h : List Entry) (sid : ℕ) (spec : FlowSpec) where
     placed_at-others : (other : ℕ) → other ≢ sid → placed_at (h ++ admit place ∷ []) other ≡ placed_at h other
     placed_at-others other differ =
         placed_at-stays h (admit place) other
-        (other_turn sid other (Begins (record { spec = spec; placement = place })) differ)
+        (other_turn sid other (Begins (record { spec = spec; placement = place })) differ) refl refl
 
     placed_at-admitted : placed_at (h ++ admit place ∷ []) sid
-        ≡ option_map (λ p. record { sid = sid; spec = spec; placement = p }) place
+        ≡ option_map (λ p. record { sid = sid; spec = spec; placement = p; rests = false }) place
     placed_at-admitted = ap (option_and_then (placed_in_life sid))
         (life_of-begins sid h (admit place) (record { spec = spec; placement = place })
         (own_turn sid (Begins (record { spec = spec; placement = place }))))
@@ -73,14 +75,15 @@ module _ (stamp : Stamp) (h : List Entry) (sid : ℕ) (spec : FlowSpec) where
   -- its placement is put in at its SID
   pub table_of-admit_placed : (p : Placement) → life_of sid h ≡ None → 1 ≤ sid → sid ≤ 8191
       → table_of (h ++ record { stamp = stamp; call = calls.Admit sid spec; reply = replies.Admitted (Some p) } ∷ [])
-      ≡ with_placed (record { sid = sid; spec = spec; placement = p }) (table_of h)
+      ≡ with_placed (record { sid = sid; spec = spec; placement = p; rests = false }) (table_of h)
   table_of-admit_placed p none low high =
       rw sids-range.2
       (filter_map-put_in (λ p. p.sid) (placed_at h) (placed_at-sid h) (placed_at (h ++ admit (Some p) ∷ [])) sid
-      (record { sid = sid; spec = spec; placement = p }) refl
+      (record { sid = sid; spec = spec; placement = p; rests = false }) refl
       (ap (option_and_then (placed_in_life sid)) none) (placed_at-admitted (Some p))
       (placed_at-others (Some p)) 1 sids-range.0 low
-      (omega (arith, sids-range.1))) ∙ put_in-placed (record { sid = sid; spec = spec; placement = p }) (table_of h)
+      (omega (arith, sids-range.1))) ∙ put_in-placed
+      (record { sid = sid; spec = spec; placement = p; rests = false }) (table_of h)
 
   -- where it has none no placement changes
   pub table_of-admit_unplaced : life_of sid h ≡ None

@@ -36,7 +36,8 @@ asked_flow : (b : Bool) (bytes heard : ℕ) (f : LiveFlow) → record f {
 asked_flow true bytes heard f = rw (append-nil f.grants) refl
 asked_flow false bytes heard f = let none : f.asked + 0 ≡ f.asked = omega arith in rw (none, append-nil f.grants) refl
 
-eqb-sym : (m n : ℕ) → (m == n) ≡ (n == m)
+-- a test whether two numbers are the same, either way round
+pub eqb-sym : (m n : ℕ) → (m == n) ≡ (n == m)
 eqb-sym m n = grind (arith, nat_tests)
 
 asked_this : (sid bytes heard : ℕ) (f : LiveFlow) → record f {
@@ -63,7 +64,7 @@ module _ (stamp : Stamp) (h : List Entry) (receiver sid : ℕ) (amount : Amount)
       ≡ table_of h
   table_of-ask =
       table_of-stays h (record { stamp = stamp; call = calls.Ask receiver sid amount heard; reply = replies.Taken })
-      (λ other. refl)
+      (λ other. refl) (λ other. refl) (λ other. refl)
 
 -- a turn of another SID is none
 pub other_turn : {X : Type 0} (sid other : ℕ) (turn : X) → other ≢ sid
@@ -75,12 +76,13 @@ pub own_turn : {X : Type 0} (sid : ℕ) (turn : X) → (if sid == sid then Some 
 own_turn sid turn = grind (arith, nat_tests)
 
 -- a value under another number is kept, and that under this number is not
-kept_other : {Y : Type 0} (key : Y → ℕ) (sid other : ℕ) (o : Option Y) → ((y : Y) → o ≡ Some y → key y ≡ other)
+pub kept_other : {Y : Type 0} (key : Y → ℕ) (sid other : ℕ) (o : Option Y) → ((y : Y) → o ≡ Some y → key y ≡ other)
     → other ≢ sid → option_and_then (kept_if (λ y. not (key y == sid))) o ≡ o
 kept_other key sid other None has differ = refl
 kept_other key sid other (Some y) has differ = let own : key y ≡ other = has y refl in grind (arith, nat_tests)
 
-kept_own : {Y : Type 0} (key : Y → ℕ) (sid : ℕ) (o : Option Y) → ((y : Y) → o ≡ Some y → key y ≡ sid)
+-- none is kept under this number
+pub kept_own : {Y : Type 0} (key : Y → ℕ) (sid : ℕ) (o : Option Y) → ((y : Y) → o ≡ Some y → key y ≡ sid)
     → option_and_then (kept_if (λ y. not (key y == sid))) o ≡ None
 kept_own key sid None has = refl
 kept_own key sid (Some y) has = let own : key y ≡ sid = has y refl in grind (arith, nat_tests)
@@ -123,6 +125,6 @@ module _ (stamp : Stamp) (h : List Entry) (sid : ℕ) where
       (λ other. elim (cases_eq other sid) [
         | inl same ↦ rw same (ap (option_and_then (placed_in_life sid)) (life_of-ends sid h e (own_turn sid Ends))
             ∙ sym (kept_own (λ p. p.sid) sid (placed_at h sid) (placed_at-sid h sid)))
-        | inr differ ↦ placed_at-stays h e other (other_turn sid other Ends differ)
+        | inr differ ↦ placed_at-stays h e other (other_turn sid other Ends differ) refl refl
             ∙ sym (kept_other (λ p. p.sid) sid other (placed_at h other) (placed_at-sid h other) differ)
       ])

@@ -1,5 +1,5 @@
 -- The live flows and placements are found by their SIDs, and ascend.
-use Rattle.std.proofs.Common.{◌≡◌, ℕ, ◌≤◌, ◌<◌, false, ◌==◌, List, find}
+use Rattle.std.proofs.Common.{◌≡◌, ℕ, ◌≤◌, ◌<◌, Bool, false, ◌==◌, List, find}
 use Rattle.std.proofs.Common.{Option, None, Some, refl, sym, ap, arith, [], ◌∷◌}
 use Rattle.std.specs.Prelude.{is_some}
 use Rattle.std.specs.List.{AllByRecursion}
@@ -9,10 +9,12 @@ use Rattle.minislots.specs.declared.config.Config.{Config}
 use Rattle.sched_calls.specs.declared.spec.FlowSpec.{FlowSpec}
 use Rattle.map_build.specs.Spots.{IsFlowSid, AreOfChannel}
 use Rattle.flow_book.specs.Flows.{LiveFlow, flow_of}
+use Rattle.flow_book.specs.Sids.{AscendBy}
 use Rattle.sched_calls.specs.declared.placement.Placement.{Placement}
 use Rattle.periodic.specs.Placement.{count_from, Placed}
 use Rattle.sched_calls.specs.declared.reply.Entry.{Entry}
-use Rattle.sched_history.specs.Life.{Life, life_of, flow_in_life, placed_in_life, sids, flows_of, table_of}
+use Rattle.sched_history.specs.Life.{Life, life_of, given_in, rests_in, flow_in_life, placed_in_life, sids}
+use Rattle.sched_history.specs.Life.{flows_of, table_of}
 use Rattle.sched_history.specs.Refusal.{bad_sid, is_live}
 use Rattle.sched_history.proofs.lists.Numbered.{HasNumber, filter_map-above, filter_map-ascends, filter_map-below}
 use Rattle.sched_history.proofs.lists.Numbered.{find-inside}
@@ -39,16 +41,18 @@ flow-number c sid (Some life) f is = let same : flow_in_life c sid life ≡ f = 
 pub flow_at-sid : (c : Config) (h : List Entry) → HasNumber (λ f. f.sid) (flow_at c h)
 flow_at-sid c h sid f is = flow-number c sid (life_of sid h) f is
 
-placement-number : (sid : ℕ) (spec : FlowSpec) (placement : Option Placement) (p : Placed)
-    → option_map (λ placement. record { sid = sid; spec = spec; placement = placement }) placement ≡ Some p
-    → p.sid ≡ sid
-placement-number sid spec None p is = absurd cc
-placement-number sid spec (Some placement) p is =
-    let same : record { sid = sid; spec = spec; placement = placement } ≡ p = cc in sym (ap (λ q. q.sid) same)
+placement-number : (sid : ℕ) (spec : FlowSpec) (rests : Bool) (placement : Option Placement) (p : Placed)
+    → option_map (λ placement. record { sid = sid; spec = spec; placement = placement; rests = rests }) placement
+    ≡ Some p → p.sid ≡ sid
+placement-number sid spec rests None p is = absurd cc
+placement-number sid spec rests (Some placement) p is =
+    let same : record { sid = sid; spec = spec; placement = placement; rests = rests } ≡ p = cc in
+    sym (ap (λ q. q.sid) same)
 
 placed-number : (sid : ℕ) (o : Option Life) (p : Placed) → option_and_then (placed_in_life sid) o ≡ Some p → p.sid ≡ sid
 placed-number sid None p is = absurd cc
-placed-number sid (Some life) p is = placement-number sid life.admission.spec life.admission.placement p is
+placed-number sid (Some life) p is =
+    placement-number sid (given_in sid life).spec (rests_in sid life.since) (given_in sid life).placement p is
 
 -- a placed flow has its SID
 pub placed_at-sid : (h : List Entry) → HasNumber (λ p. p.sid) (placed_at h)
@@ -67,6 +71,10 @@ pub find-table_of : (sid : ℕ) (h : List Entry) → 1 ≤ sid → sid ≤ 8191
 find-table_of sid h low high =
     rw sids-range.2
     (find-inside (λ p. p.sid) (placed_at h) (placed_at-sid h) 1 sids-range.0 sid low (omega (arith, sids-range.1)))
+
+-- the placed flows stand in order of SID
+pub table_of-ascends : (h : List Entry) → AscendBy (λ p. p.sid) (table_of h)
+table_of-ascends h = rw sids-range.2 (filter_map-ascends (λ p. p.sid) (placed_at h) (placed_at-sid h) 1 sids-range.0)
 
 -- every live flow has a SID that a flow may have
 pub flows_of-sids : (c : Config) (h : List Entry) → AllByRecursion (λ f. 1 ≤ f.sid) (flows_of c h)

@@ -7,7 +7,7 @@ use Rattle.std.specs.Option.{option_and_then}
 use Rattle.minislots.specs.declared.config.Config.{Config}
 use Rattle.periodic.specs.Placement.{count_from, Placed}
 use Rattle.sched_calls.specs.declared.reply.Entry.{Entry}
-use Rattle.sched_history.specs.Life.{Life, life_of, flow_in_life, placed_in_life, sids, flows_of, table_of}
+use Rattle.sched_history.specs.Life.{Life, life_of, given_in, flow_in_life, placed_in_life, sids, flows_of, table_of}
 use Rattle.sched_history.proofs.lives.Finding.{sids-range, flow_at, placed_at}
 
 -- of numbers of which f says nothing nothing is left
@@ -84,22 +84,22 @@ table_of-one h s life placed low high one place others =
 
 -- nothing is placed for a life without a place
 placed_in_life-unplaced : (sid : ℕ) (o : Option Life)
-    → ((life : Life) → o ≡ Some life → life.admission.placement ≡ None) → option_and_then (placed_in_life sid) o ≡ None
+    → ((life : Life) → o ≡ Some life → (given_in sid life).placement ≡ None) → option_and_then (placed_in_life sid) o ≡ None
 placed_in_life-unplaced sid None unplaced = refl
 placed_in_life-unplaced sid (Some life) unplaced = rw (unplaced life refl)
 
 -- where no life has a place no flow is placed
 pub table_of-unplaced : (h : List Entry)
-    → ((sid : ℕ) (life : Life) → life_of sid h ≡ Some life → life.admission.placement ≡ None) → table_of h ≡ []
+    → ((sid : ℕ) (life : Life) → life_of sid h ≡ Some life → (given_in sid life).placement ≡ None) → table_of h ≡ []
 table_of-unplaced h unplaced =
     filter_map-sids-none (placed_at h) (λ sid. placed_in_life-unplaced sid (life_of sid h) (unplaced sid))
 
 -- where one SID alone has a life, without a place, no flow is placed
 pub table_of-unplaced_one : (h : List Entry) (s : ℕ) (life : Life) → life_of s h ≡ Some life
-    → life.admission.placement ≡ None → ((sid : ℕ) → sid ≢ s → life_of sid h ≡ None) → table_of h ≡ []
+    → (given_in s life).placement ≡ None → ((sid : ℕ) → sid ≢ s → life_of sid h ≡ None) → table_of h ≡ []
 table_of-unplaced_one h s life one unplaced others = table_of-unplaced h (λ sid other lives. elim (cases_eq sid s) [
   | inl e ↦ (let same : Some other ≡ Some life = sym lives ∙ ap (λ x. life_of x h) e ∙ one in
-      let them : other ≡ life = cc in rw them unplaced)
+      let them : other ≡ life = cc in rw (e, them) unplaced)
   | inr not_s ↦ (let never : Some other ≡ None = sym lives ∙ others sid not_s in cc)
 ])
 
@@ -124,15 +124,15 @@ table_of-two h s t life life' placed placed' low up high one two place place' ot
 
 -- where two SIDs alone have a life, without a place, no flow is placed
 pub table_of-unplaced_two : (h : List Entry) (s t : ℕ) (life life' : Life) → life_of s h ≡ Some life
-    → life_of t h ≡ Some life' → life.admission.placement ≡ None → life'.admission.placement ≡ None
+    → life_of t h ≡ Some life' → (given_in s life).placement ≡ None → (given_in t life').placement ≡ None
     → ((sid : ℕ) → sid ≢ s → sid ≢ t → life_of sid h ≡ None) → table_of h ≡ []
 table_of-unplaced_two h s t life life' one two unplaced unplaced' others =
     table_of-unplaced h (λ sid other lives. elim (cases_eq sid s) [
       | inl e ↦ (let same : Some other ≡ Some life = sym lives ∙ ap (λ x. life_of x h) e ∙ one in
-          let them : other ≡ life = cc in rw them unplaced)
+          let them : other ≡ life = cc in rw (e, them) unplaced)
       | inr not_s ↦ elim (cases_eq sid t) [
         | inl e ↦ (let same : Some other ≡ Some life' = sym lives ∙ ap (λ x. life_of x h) e ∙ two in
-            let them : other ≡ life' = cc in rw them unplaced')
+            let them : other ≡ life' = cc in rw (e, them) unplaced')
         | inr not_t ↦ (let never : Some other ≡ None = sym lives ∙ others sid not_s not_t in cc)
       ]
     ])

@@ -1,6 +1,9 @@
 -- The grants per interval of the live flows, in every legal history.
-use Rattle.std.proofs.Common.{◌≡◌, ℕ, ◌+◌, ◌≤◌, Bool, true, false, not, nat_lt, ◌==◌, if◌then◌else◌}
-use Rattle.std.proofs.Common.{cond, List, [], ◌∷◌, ◌++◌, map, filter, refl, arith}
+use Rattle.std.proofs.Common.{◌≡◌, ℕ, ◌+◌, ◌<◌, ◌≤◌, Bool, true, false, not, nat_lt, ◌==◌, if◌then◌else◌}
+use Rattle.std.proofs.Common.{cond, List, [], ◌∷◌, ◌++◌, map, filter, refl, subst, inl, inr, arith}
+use Rattle.std.specs.List.{AllByRecursion}
+use Rattle.std.proofs.lemmas.Bool.{cases_eq}
+use Rattle.std.proofs.lemmas.Bool.Decides.{nat_tests}
 use Rattle.std.specs.Prelude.{sum_by}
 use Rattle.std.proofs.lemmas.List.Sums.{sum_by-cons}
 use Rattle.minislots.specs.declared.config.Config.{Config}
@@ -9,16 +12,18 @@ use Rattle.sched_calls.specs.declared.spec.FlowSpec.{FlowSpec}
 use Rattle.sched_calls.specs.declared.spec.FlowSpec.TheVariants.{Unsolicited, Polled, BestEffort}
 use Rattle.sched_calls.specs.FlowSpec.{is_periodic, grants_of}
 use Rattle.flow_book.specs.Flows.{LiveFlow}
-use Rattle.flow_book.specs.Book.{with_flow, new_flow, with_asked}
+use Rattle.flow_book.specs.Book.{Ascend, with_flow, without, changed, new_flow, with_asked, with_replaced}
+use Rattle.flow_book.specs.Book.{with_spec}
 use Rattle.map_build.specs.Plan.{flow_after}
 use Rattle.sched_calls.specs.declared.reply.Entry.{Entry}
 use Rattle.sched_history.specs.Life.{flows_of}
 use Rattle.sched_history.specs.Time.{next_after}
-use Rattle.sched_history.specs.Refusal.{periodic_grants}
+use Rattle.sched_history.specs.Refusal.{periodic_grants, other_grants}
 use Rattle.sched_history.specs.History.{IsLegal}
+use Rattle.sched_history.proofs.lives.Finding.{flows_of-channel}
 use Rattle.sched_history.proofs.lives.LiveFlows.{flows_of-none}
 use Rattle.sched_history.proofs.steps.LegalHistories.{legal_induction}
-use Rattle.sched_history.proofs.steps.EntryChanges.{EntryChange, Nothing, Asked, Began, Ended}
+use Rattle.sched_history.proofs.steps.EntryChanges.{EntryChange, Nothing, Asked, Replaced, Changed, Began, Ended}
 use Rattle.sched_history.proofs.steps.EntryChanges.{Described, Skipped, change_of}
 
 module _ {X : Type 0} (own : X → ℕ) where
@@ -59,6 +64,52 @@ asked-spec : (b : Bool) (bytes heard : ℕ) (f : LiveFlow)
 asked-spec true bytes heard f = refl
 asked-spec false bytes heard f = refl
 
+replaced-spec : (b : Bool) (bytes heard : ℕ) (f : LiveFlow)
+    → grants_of (cond b (with_replaced bytes heard f) f).spec ≡ grants_of f.spec
+replaced-spec true bytes heard f = refl
+replaced-spec false bytes heard f = refl
+
+changed-few : (spec : FlowSpec) (n others most : ℕ) → n ≤ others + grants_of spec
+    → (is_periodic spec ≡ true → others + grants_of spec ≤ most) → others ≤ most → n ≤ most
+changed-few (Unsolicited size interval jitter grants) n others most sum room few = omega (arith, sum, room refl)
+changed-few (Polled interval jitter rate burst) n others most sum room few = omega (arith, sum, room refl)
+changed-few (BestEffort priority rate burst) n others most sum room few = omega (arith, sum, few)
+
+-- a flow of another SID stays
+same-above : (sid : ℕ) (spec : FlowSpec) (f : LiveFlow) → sid < f.sid
+    → ((if f.sid == sid then with_spec spec f else f) ≡ f) × (not (f.sid == sid) ≡ true)
+same-above sid spec f above = (grind (arith, nat_tests), grind (arith, nat_tests))
+
+above-same : (sid : ℕ) (spec : FlowSpec) (flows : List LiveFlow) → AllByRecursion (λ g. sid < g.sid) flows
+    → (changed sid (with_spec spec) flows ≡ flows) × (without sid flows ≡ flows)
+above-same sid spec [] all = (refl, refl)
+above-same sid spec (f ∷ flows) all =
+    let here = same-above sid spec f all.0 in
+    let rest = above-same sid spec flows all.1 in
+    (rw (here.0, rest.0) refl, rw (here.1, rest.1) refl)
+
+-- with other parameters of one flow the grants are those of the others and its own
+changed-sum : (sid : ℕ) (spec : FlowSpec) (flows : List LiveFlow) → Ascend flows
+    → sum_by (λ f. grants_of f.spec) (changed sid (with_spec spec) flows)
+    ≤ sum_by (λ f. grants_of f.spec) (without sid flows) + grants_of spec
+changed-sum sid spec [] up = omega arith
+changed-sum sid spec (f ∷ flows) up =
+    let own : LiveFlow → ℕ = λ g. grants_of g.spec in
+    elim (cases_eq f.sid sid) [
+      | inl same ↦ (
+          let rest = above-same sid spec flows (subst (λ n. AllByRecursion (λ g. n < g.sid) flows) same up.0) in
+          let test : (f.sid == sid) ≡ true = grind (arith, nat_tests) in
+          rw (test, rest.0, rest.1) (omega (arith, sum_by-cons own (with_spec spec f) flows)))
+      | inr other ↦ (
+          let test : (f.sid == sid) ≡ false = grind (arith, nat_tests) in
+          rw test (omega (
+            arith,
+            sum_by-cons own f (changed sid (with_spec spec) flows),
+            sum_by-cons own f (without sid flows),
+            changed-sum sid spec flows up.1,
+          )))
+    ]
+
 few-more : (spec : FlowSpec) (n most : ℕ) → (is_periodic spec ≡ true → n + grants_of spec ≤ most) → n ≤ most
     → grants_of spec + n ≤ most
 few-more (Unsolicited size interval jitter grants) n most room few = omega (arith, room refl)
@@ -77,6 +128,15 @@ module _ (c : Config) (lawful : IsLawful c) where
           sum_by-map own (λ f. if f.sid == sid then with_asked bytes heard f else f) (flows_of c h)
               (λ f. asked-spec (f.sid == sid) bytes heard f),
         ) few
+        | Replaced sid bytes heard most flows next ↦ rw (
+          flows,
+          sum_by-map own (λ f. if f.sid == sid then with_replaced bytes heard f else f) (flows_of c h)
+              (λ f. replaced-spec (f.sid == sid) bytes heard f),
+        ) few
+        | Changed sid spec may flows next ↦
+            rw flows (changed-few spec (sum_by own (changed sid (with_spec spec) (flows_of c h))) (other_grants c sid h)
+            c.periodic (changed-sum sid spec (flows_of c h) (flows_of-channel c h).ascend) may.few_grants
+            (omega (arith, few, sum_by-filter own (λ f. not (f.sid == sid)) (flows_of c h))))
         | Began sid spec may flows next ↦ rw (flows, sum_by-with_flow own (new_flow sid spec) (flows_of c h))
             (few-more spec (periodic_grants c h) c.periodic may.few_grants few)
         | Ended sid flows next ↦

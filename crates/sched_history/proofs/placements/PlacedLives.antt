@@ -1,27 +1,30 @@
 -- The live placements of a legal history: each was lawful when it was made.
 use Rattle.std.proofs.Common.{◌≡◌, ℕ, ◌≤◌, Bool, true, false, if◌then◌else◌, ◌==◌, List, [], ◌∷◌, ◌++◌}
-use Rattle.std.proofs.Common.{Option, None, Some, refl, sym, ap, ◌∙◌, subst, inl, inr, Contains, arith}
-use Rattle.std.specs.Option.{option_map, option_and_then}
+use Rattle.std.proofs.Common.{Option, None, Some, refl, ap, ◌∙◌, subst, inl, inr, Contains, arith}
+use Rattle.std.specs.Option.{option_map, option_and_then, IsSomeAnd}
 use Rattle.std.proofs.lemmas.Bool.Decides.{nat_tests}
 use Rattle.minislots.specs.declared.config.Config.{Config}
 use Rattle.sched_calls.specs.declared.spec.FlowSpec.{FlowSpec}
 use Rattle.sched_calls.specs.declared.spec.FlowSpec.TheVariants.{Unsolicited, Polled, BestEffort}
 use Rattle.sched_calls.specs.FlowSpec.{is_periodic, first_fault}
 use Rattle.sched_calls.specs.declared.placement.Placement.{Placement}
-use Rattle.periodic.specs.Placement.{Placed, IsPlacement}
+use Rattle.periodic.specs.Placement.{Placed, IsPlacement, IsToldFrom}
+use Rattle.periodic.specs.Table.{without}
+use Rattle.periodic.proofs.Told.{alike-placed, placement-told}
 use Rattle.sched_calls.specs.declared.call.Call.{Call}
 use Rattle.sched_calls.specs.declared.call.Call.TheVariants as calls
 use Rattle.sched_calls.specs.declared.reply.Reply.{Reply}
 use Rattle.sched_calls.specs.declared.reply.Reply.TheVariants as replies
 use Rattle.sched_calls.specs.declared.reply.Entry.{Entry}
-use Rattle.sched_history.specs.Life.{Admission, Turn, Begins, Ends, turn_by, Life}
-use Rattle.sched_history.specs.Life.{life_of, placed_in_life, sids, table_of}
+use Rattle.sched_history.specs.Life.{Admission, Begins, Ends, turn_by, Life, life_of, given_in, rests_in}
+use Rattle.sched_history.specs.Life.{placed_in_life, sids, table_of}
 use Rattle.sched_history.specs.Time.{next_after}
-use Rattle.sched_history.specs.History.{PlacesOrRefuses, AnswersAdmit, IsStep, IsLegal}
-use Rattle.sched_history.proofs.steps.LegalHistories.{accepted, legal_induction}
-use Rattle.sched_history.proofs.steps.Passed.{passed-admit}
+use Rattle.sched_history.specs.History.{PlacesOrRefuses, AnswersAdmit, PlacesAnew, AnswersChange, IsStep}
+use Rattle.sched_history.specs.History.{IsLegal}
+use Rattle.sched_history.proofs.steps.LegalHistories.{accepted}
+use Rattle.sched_history.proofs.steps.Passed.{ChangesFlow, passed-admit}
 use Rattle.sched_history.proofs.time.NextFrames.{next_after-ascends}
-use Rattle.sched_history.proofs.lives.LivesAfter.{with_since, life_of-stays, life_of-begins, life_of-ends}
+use Rattle.sched_history.proofs.placements.Given.{IsGivenSo, lives-given}
 use Rattle.sched_history.proofs.lists.Members.{IsImage, Contains-filter_map}
 
 -- The placement was lawful for this flow beside those placed then, from a minislot that is not ahead of this one
@@ -104,27 +107,28 @@ later_placed c slot later spec p le was =
       periodic = was.periodic;
     }
 
--- every life of a history has its placement
-abbrev pub ArePlaced : Config → List Entry → Type 0
-ArePlaced c h = (sid : ℕ) (life : Life) → life_of sid h ≡ Some life → WasPlacedIn c (next_after c h) life.admission
+-- an accepted change places anew what it places
+pub changed_place : (c : Config) (h : List Entry) (sid : ℕ) (spec : FlowSpec) (placement : Option Placement) (p : Placement)
+    → placement ≡ Some p → PlacesAnew c h sid spec (replies.Changed placement)
+    → IsPlacement c (without sid (table_of h)) spec (next_after c h) p
+changed_place c h sid spec placement p at (inl (q, lawful, is)) =
+    let them : q ≡ p = cc in subst (IsPlacement c (without sid (table_of h)) spec (next_after c h)) them lawful
+changed_place c h sid spec placement p at (inr (never, is)) = absurd cc
+
+-- or it keeps what stands
+kept_place : (c : Config) (given a : Admission) (next : ℕ) (o : Option Placement) (p q : Placement)
+    → given.placement ≡ o → a.placement ≡ Some p → replies.Changed a.placement ≡ replies.Changed (Some q)
+    → IsSomeAnd o (λ stands. IsToldFrom c a.spec next stands q)
+    → (stands : Placement) × (given.placement ≡ Some stands) × IsToldFrom c a.spec next stands p
+kept_place c given a next None p q was at is told = absurd told
+kept_place c given a next (Some stands) p q was at is told =
+    let them : q ≡ p = cc in (stands, was, subst (IsToldFrom c a.spec next stands) them told)
 
 module _ (c : Config) where
-  -- a life that goes on
-  place_stays : (h : List Entry) (e : Entry) (sid : ℕ) (old : Option Life) (life : Life) → life_of sid h ≡ old
-      → option_map (with_since e) old ≡ Some life
-      → IsStep c h e.call e.reply → ArePlaced c h → WasPlacedIn c (next_after c (h ++ e ∷ [])) life.admission
-  place_stays h e sid None life was is step placed = absurd (cc)
-  place_stays h e sid (Some old) life was is step placed =
-      let them : with_since e old ≡ life = cc in
-      let same : old.admission ≡ life.admission = ap (λ (l : Life). l.admission) them in
-      λ p at. later_placed c (next_after c h) (next_after c (h ++ e ∷ [])) life.admission.spec p
-      (next_after-ascends c h e step)
-      (subst (WasPlacedIn c (next_after c h)) same (placed sid old was) p at)
-
   -- a life that begins
-  place_begins : (h : List Entry) (e : Entry) (sid : ℕ) (a : Admission) → turn_by sid e.call e.reply ≡ Some (Begins a)
-      → IsStep c h e.call e.reply → WasPlacedIn c (next_after c (h ++ e ∷ [])) a
-  place_begins h e sid a begins step p at =
+  place_begins : (h : List Entry) (e : Entry) (sid : ℕ) (a : Admission) → IsStep c h e.call e.reply
+      → turn_by sid e.call e.reply ≡ Some (Begins a) → WasPlacedIn c (next_after c (h ++ e ∷ [])) a
+  place_begins h e sid a step begins p at =
       let admits : IsAdmission sid e.call e.reply a = begins_by sid e.call e.reply a begins in
       let step' : IsStep c h (calls.Admit sid a.spec) (replies.Admitted a.placement) =
       subst (λ r. IsStep c h (calls.Admit sid a.spec) r) admits.answered
@@ -140,37 +144,69 @@ module _ (c : Config) where
         periodic = now.periodic;
       }
 
-  place_turned : (h : List Entry) (e : Entry) (sid : ℕ) (turn : Option Turn) (life : Life)
-      → turn_by sid e.call e.reply ≡ turn
-      → life_of sid (h ++ e ∷ []) ≡ Some life
-      → IsStep c h e.call e.reply → ArePlaced c h → WasPlacedIn c (next_after c (h ++ e ∷ [])) life.admission
-  place_turned h e sid None life is lives step placed = place_stays h e sid (life_of sid h) life refl
-      (sym (life_of-stays sid h e is) ∙ lives) step placed
-  place_turned h e sid (Some (Begins a)) life is lives step placed =
-      let begun : Some (record { admission = a; since = [] }) ≡ Some life = sym (life_of-begins sid h e a is) ∙ lives in
-      let same : record { admission = a; since = [] } ≡ life = cc in
-      subst (λ (l : Life). WasPlacedIn c (next_after c (h ++ e ∷ [])) l.admission) same (place_begins h e sid a is step)
-  place_turned h e sid (Some Ends) life is lives step placed =
-      absurd (let none : None ≡ Some life = sym (life_of-ends sid h e is) ∙ lives in cc)
+  -- a life that has other parameters
+  place_changes : (h : List Entry) (e : Entry) (sid : ℕ) (given a : Admission) (p : Placement)
+      → IsStep c h e.call e.reply → ChangesFlow c h sid a.spec → a.placement ≡ Some p
+      → AnswersChange c h sid given a.spec (replies.Changed a.placement) → WasPlacedIn c (next_after c h) given
+      → WasPlaced c (next_after c (h ++ e ∷ [])) a.spec p
+  place_changes h e sid given a p step may at (inl (same, (q, told, is))) was =
+      let alike = alike-placed c given.spec a.spec same in
+      let kept = kept_place c given a (next_after c h) given.placement p q refl at is told in
+      let stood = was kept.0 kept.1 in
+      record {
+        table = stood.table;
+        since = next_after c h;
+        past = next_after-ascends c h e step;
+        lawful = placement-told c given.spec a.spec kept.0 p (next_after c h) alike kept.2 stood.table stood.since
+            stood.lawful;
+        faultless = may.no_fault;
+        periodic = alike.periodic;
+      }
+  place_changes h e sid given a p step may at (inr (inl (other, periodic, answers))) was = record {
+    table = without sid (table_of h);
+    since = next_after c h;
+    past = next_after-ascends c h e step;
+    lawful = changed_place c h sid a.spec a.placement p at answers;
+    faultless = may.no_fault;
+    periodic = periodic;
+  }
+  place_changes h e sid given a p step may at (inr (inr (aperiodic, is))) was = absurd cc
+
+  places-given : IsGivenSo c (λ h sid a. WasPlacedIn c (next_after c h) a)
+  places-given = record {
+    stays = λ h e sid a step was p at.
+        later_placed c (next_after c h) (next_after c (h ++ e ∷ [])) a.spec p (next_after-ascends c h e step) (was p at);
+    begins = place_begins;
+    changes = λ h e sid life a legal step change was p at.
+        place_changes h e sid (given_in sid life) a p step change.passed at change.answers was;
+  }
 
   -- every life of a legal history has a placement that was lawful, where it has one
-  pub lives_placed : (h : List Entry) → IsLegal c h → ArePlaced c h
-  lives_placed = legal_induction c (ArePlaced c)
-      (λ h e legal step placed sid life lives. place_turned h e sid
-      (turn_by sid e.call e.reply) life refl lives step placed)
-      (λ sid life none. absurd (cc))
+  pub lives_placed : (h : List Entry) → IsLegal c h → (sid : ℕ) (life : Life) → life_of sid h ≡ Some life
+      → WasPlacedIn c (next_after c h) (given_in sid life)
+  lives_placed h legal = lives-given c (λ h sid a. WasPlacedIn c (next_after c h) a) places-given h legal
 
   placed_said : (h : List Entry) (sid : ℕ) (o : Option Life) (flow : Placed) → life_of sid h ≡ o
       → option_and_then (placed_in_life sid) o ≡ Some flow → IsLegal c h
       → WasPlaced c (next_after c h) flow.spec flow.placement
   placed_said h sid None flow lives is legal = absurd (cc)
-  placed_said h sid (Some life) flow lives is legal = placed_at life.admission.placement refl is where
-    placed_at : (o : Option Placement) → life.admission.placement ≡ o
-        → option_map (λ p. record { sid = sid; spec = life.admission.spec; placement = p }) o ≡ Some flow
+  placed_said h sid (Some life) flow lives is legal = placed_at (given_in sid life).placement refl is where
+    placed_at : (o : Option Placement) → (given_in sid life).placement ≡ o
+        → option_map (λ p. record {
+          sid = sid;
+          spec = (given_in sid life).spec;
+          placement = p;
+          rests = rests_in sid life.since;
+        }) o ≡ Some flow
         → WasPlaced c (next_after c h) flow.spec flow.placement
     placed_at None at is = absurd (cc)
     placed_at (Some p) at is =
-        let same : record { sid = sid; spec = life.admission.spec; placement = p } ≡ flow = cc in
+        let same : record {
+          sid = sid;
+          spec = (given_in sid life).spec;
+          placement = p;
+          rests = rests_in sid life.since;
+        } ≡ flow = cc in
         subst (λ (flow : Placed). WasPlaced c (next_after c h) flow.spec flow.placement) same
         (lives_placed h legal sid life lives p at)
 

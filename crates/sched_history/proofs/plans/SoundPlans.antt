@@ -1,8 +1,8 @@
 -- A plan's data grants keep each flow within what it asked and within its rate ceiling.
-use Rattle.std.proofs.Common.{◌≡◌, ℕ, ◌+◌, Bool, true, false, ◌==◌, List, [], ◌∷◌, ◌++◌, None}
+use Rattle.std.proofs.Common.{◌≡◌, ℕ, ◌+◌, ◌≤◌, Bool, true, false, ◌==◌, List, [], ◌∷◌, ◌++◌, length, None}
 use Rattle.std.proofs.Common.{Some, refl, sym, ap, ◌∙◌, subst, Contains, append_assoc, arith}
 use Rattle.std.proofs.lemmas.Bool.{eqb-true}
-use Rattle.std.proofs.lemmas.List.{append-nil}
+use Rattle.std.proofs.lemmas.List.{append-nil, length_push}
 use Rattle.std.proofs.lemmas.List.Elements.{filter_map-append}
 use Rattle.std.proofs.lemmas.List.Sums.{sum_by_push}
 use Rattle.minislots.specs.declared.config.Config.{Config}
@@ -10,6 +10,7 @@ use Rattle.flow_book.specs.declared.flow.Grant.{Grant}
 use Rattle.flow_book.specs.Flows.{LiveFlow, with_grant}
 use Rattle.flow_book.specs.Choice.{IsAmount}
 use Rattle.flow_book.specs.Entry.{IsSoundFlow}
+use Rattle.flow_book.proofs.Periods.{period-more}
 use Rattle.map_build.specs.declared.purpose.Allocation.{Allocation}
 use Rattle.map_build.specs.declared.purpose.Purpose.{Purpose}
 use Rattle.map_build.specs.declared.purpose.Purpose.TheVariants.{DataGrant}
@@ -18,18 +19,28 @@ use Rattle.map_build.specs.Purpose.{grant_to}
 use Rattle.map_build.specs.Plan.{Demand, flow_after, flows_after, room_at, IsOfClass, Stands}
 use Rattle.sched_history.proofs.lists.Members.{IsImage, Contains-map}
 
+-- A flow is sound, and its grants before the present period of its ceiling are some of its first
+pub record IsSoundLife (c : Config) (f : LiveFlow) : Type 0 where
+  pub sound : IsSoundFlow c f
+  pub begun : f.earlier ≤ length f.grants
+
 -- a flow is sound with a grant more of the amount
-sound_with : (c : Config) (f : LiveFlow) (start room bytes : ℕ) → IsSoundFlow c f → IsAmount c f start room bytes
-    → IsSoundFlow c (with_grant (record { start = start; bytes = bytes }) f)
-sound_with c f start room bytes sound amount = record {
-  within = omega (
-    arith,
-    sum_by_push (λ (g : Grant). g.bytes) f.grants (record { start = start; bytes = bytes }),
-    sound.within,
-    amount.allowed.asked,
-  );
-  kept = amount.allowed.taken.ceiling;
-}
+sound_with : (c : Config) (f : LiveFlow) (start room bytes : ℕ) → IsSoundLife c f → IsAmount c f start room bytes
+    → IsSoundLife c (with_grant (record { start = start; bytes = bytes }) f)
+sound_with c f start room bytes is amount =
+    let g : Grant = record { start = start; bytes = bytes } in
+    record {
+      sound = record {
+        within = omega (
+          arith,
+          sum_by_push (λ (g : Grant). g.bytes) f.grants g,
+          is.sound.within,
+          amount.allowed.asked,
+        );
+        kept = rw (period-more f g is.begun) amount.allowed.taken.ceiling;
+      };
+      begun = omega (arith, length_push f.grants g, is.begun);
+    }
 
 -- a flow after one allocation more, that grants it nothing, or a grant
 after_other : (start : ℕ) (before : List Allocation) (a : Allocation) (f : LiveFlow)
@@ -71,8 +82,8 @@ module _ (c : Config) (d : Demand) (f : LiveFlow)
   sound_grant : (before : List Allocation) (a : Allocation) (other bytes : ℕ) (same : Bool) → other == f.sid ≡ same
       → a.purpose ≡ DataGrant other bytes
       → IsOfClass c d before a.offset a.slots (DataGrant other bytes)
-      → IsSoundFlow c (flow_after start before f)
-      → IsSoundFlow c (flow_after start (before ++ a ∷ []) f)
+      → IsSoundLife c (flow_after start before f)
+      → IsSoundLife c (flow_after start (before ++ a ∷ []) f)
   sound_grant before a other bytes false test is stands sound =
       let none : grant_to start f.sid (DataGrant other bytes) a.offset ≡ None = rw test refl in
       rw (after_other start before a f (ap (λ p. grant_to start f.sid p a.offset) is ∙ none)) sound
@@ -89,8 +100,8 @@ module _ (c : Config) (d : Demand) (f : LiveFlow)
       (subst (λ g. IsAmount c g (start + a.offset) (room_at c d.spots a.offset) bytes) (sym them) stands.4))
 
   sound_more : (before : List Allocation) (a : Allocation) (purpose : Purpose) → a.purpose ≡ purpose
-      → IsOfClass c d before a.offset a.slots purpose → IsSoundFlow c (flow_after start before f)
-      → IsSoundFlow c (flow_after start (before ++ a ∷ []) f)
+      → IsOfClass c d before a.offset a.slots purpose → IsSoundLife c (flow_after start before f)
+      → IsSoundLife c (flow_after start (before ++ a ∷ []) f)
   sound_more before a (DataGrant sid bytes) is stands sound =
       sound_grant before a sid bytes (sid == f.sid) refl is stands sound
   sound_more before a purpose is stands sound =
@@ -98,7 +109,7 @@ module _ (c : Config) (d : Demand) (f : LiveFlow)
 
   -- a flow that is sound before some allocations is sound after them
   pub sound_plan : (before plan : List Allocation) → EachAfter (Stands c d) before plan
-      → IsSoundFlow c (flow_after start before f) → IsSoundFlow c (flow_after start (before ++ plan) f)
+      → IsSoundLife c (flow_after start before f) → IsSoundLife c (flow_after start (before ++ plan) f)
   sound_plan before [] each sound = rw append-nil sound
   sound_plan before (a ∷ plan) each sound = rw append_assoc at
       (sound_plan (before ++ a ∷ []) plan each.1 (sound_more before a a.purpose refl each.0.purpose sound))

@@ -6,7 +6,7 @@ use Rattle.std.proofs.lemmas.Bool.{ne_eqb}
 use Rattle.map_codec.specs.declared.element.Element.{Element}
 use Rattle.sched_calls.specs.declared.spec.FlowSpec.TheVariants.{BestEffort}
 use Rattle.sched_calls.proofs.Base.{base, the_base_is_lawful}
-use Rattle.periodic.specs.Placement.{Placed, AreFree, spots_in}
+use Rattle.periodic.specs.Placement.{Placed, AreFree, due_in}
 use Rattle.periodic.proofs.RowsPlacement.{voice, placement, first_placed}
 use Rattle.sched_calls.specs.declared.frame_map.FrameMap.{FrameMap}
 use Rattle.map_build.specs.FrameMap.{request_region, null_element}
@@ -130,8 +130,8 @@ pub a_reserve_that_is_passed_over_is_refused :
     HoldsAfter base (reserved ∷ entry 1 (Build 760) (Built first_map) ∷ []) → ⊥
 a_reserve_that_is_passed_over_is_refused holds =
     let none : table_of (reserved ∷ []) ≡ [] = table_of-none (reserved ∷ []) (λ sid. refl) in
-    let free : AreFree (spots_in base 20 (table_of (reserved ∷ []))) 4 8 =
-    subst (λ placed. AreFree (spots_in base 20 placed) 4 8) (sym none) tt in
+    let free : AreFree (due_in base 20 (table_of (reserved ∷ []))) 4 8 =
+    subst (λ placed. AreFree (due_in base 20 placed) 4 8) (sym none) tt in
     let met : Contains [] (record { usage = Initial; slots = 8 }) =
     (holds.ranging.first_met.1.0 (record { usage = Initial; slots = 8 }) refl).1
     (record { from = 4; behind = lit≤ tt; within = lit≤ tt; free = free }) in

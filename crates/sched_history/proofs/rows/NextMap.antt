@@ -2,7 +2,7 @@
 use Rattle.std.proofs.Common.{◌≡◌, ℕ, ◌/◌, ◌<◌, List, [], None}
 use Rattle.minislots.specs.declared.config.Config.{Config}
 use Rattle.flow_book.specs.Flows.{LiveFlow}
-use Rattle.periodic.specs.Placement.{Placed, spots_in}
+use Rattle.periodic.specs.Placement.{Placed, due_in}
 use Rattle.sched_calls.specs.declared.frame_map.FrameMap.{FrameMap}
 use Rattle.sched_calls.specs.Header.{header_of}
 use Rattle.map_build.specs.Plan.{Demand, demand_at}
@@ -17,7 +17,7 @@ use Rattle.sched_history.proofs.lives.LiveFlows.{flows_of-none, table_of-none}
 
 -- what the next frame has to serve, with these flows and placements
 abbrev pub demand_with : Config → List Entry → List LiveFlow → List Placed → Demand
-demand_with c h flows table = demand_at flows (spots_in c (next_after c h / c.frame) table)
+demand_with c h flows table = demand_at flows (due_in c (next_after c h / c.frame) table)
     (waiting_in (reserves_of h)) (next_after c h)
 
 -- a MAP that is lawful for the flows and placements that are live is that of the next frame

@@ -1,5 +1,5 @@
 -- Worked histories of unsolicited flows and the MAPs of their grants.
-use Rattle.std.proofs.Common.{◌≡◌, ◌≢◌, ℕ, List, [], ◌∷◌, None, Some, refl, sym, inl, lit<, lit≤}
+use Rattle.std.proofs.Common.{◌≡◌, ◌≢◌, ℕ, false, List, [], ◌∷◌, None, Some, refl, sym, inl, lit<, lit≤}
 use Rattle.std.proofs.lemmas.Bool.{ne_eqb}
 use Rattle.sched_calls.specs.FlowSpec.{first_fault}
 use Rattle.sched_calls.proofs.Base.{base}
@@ -96,7 +96,12 @@ an_unsolicited_flow_shows_zeros = refl
 
 -- a flow with two grants in each interval, where it stands, its admission and its life
 abbrev double_placed : Placed
-double_placed = record { sid = 5; spec = double_voice; placement = placement 804 (4 ∷ 19 ∷ 4 ∷ 19 ∷ []) }
+double_placed = record {
+  sid = 5;
+  spec = double_voice;
+  placement = placement 804 (4 ∷ 19 ∷ 4 ∷ 19 ∷ []);
+  rests = false;
+}
 
 abbrev double : Entry
 double = entry 0 (Admit 5 double_voice) (Admitted (Some (placement 804 (4 ∷ 19 ∷ 4 ∷ 19 ∷ []))))

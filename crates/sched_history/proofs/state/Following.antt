@@ -1,29 +1,32 @@
 -- A reply that is handed in, beside the answer.
-use Rattle.std.proofs.Common.{◌≡◌, ◌≢◌, ℕ, true, List, Option, None, Some, refl, sym, ap, ◌∙◌, arith}
+use Rattle.std.proofs.Common.{◌≡◌, ◌≢◌, ℕ, true, not, inl, inr, List, Option, None, Some, refl, sym, ap, ◌∙◌, arith}
 use Rattle.std.specs.Option.{MatchOption}
 use Rattle.std.proofs.lemmas.Bool.{cond_both}
 use Rattle.std.proofs.lemmas.Option.{same_Some}
 use Rattle.minislots.specs.declared.config.Config.{Config}
 use Rattle.sched_calls.specs.declared.spec.FlowSpec.TheVariants.{Unsolicited, Polled, BestEffort}
-use Rattle.sched_calls.specs.FlowSpec.{takes_requests}
+use Rattle.sched_calls.specs.declared.spec.FlowSpec.{FlowSpec}
+use Rattle.sched_calls.specs.FlowSpec.{is_periodic, takes_requests}
+use Rattle.periodic.proofs.Told.{alike-placed}
 use Rattle.flow_book.specs.Flows.{LiveFlow, granted, outstanding}
 use Rattle.sched_history.specs.declared.auditing.sameness.FlatReply.{FlatReply}
 use Rattle.sched_history.specs.declared.auditing.sameness.FlatReply.TheVariants as flat
 use Rattle.sched_calls.specs.declared.call.Call.{Call}
 use Rattle.sched_calls.specs.declared.call.Call.TheVariants.{Admit, Remove, Ask, Heard, Build, Skip, Status}
-use Rattle.sched_calls.specs.declared.call.Call.TheVariants.{Reserve, Header}
+use Rattle.sched_calls.specs.declared.call.Call.TheVariants.{Reserve, Header, Replace, Change, Rest, Wake}
 use Rattle.sched_calls.specs.declared.reply.Reply.{Reply}
 use Rattle.sched_calls.specs.declared.reply.Reply.TheVariants as replies
 use Rattle.sched_calls.specs.declared.reply.Entry.{Entry}
-use Rattle.sched_history.specs.Life.{Life, life_of, flow_in_life}
+use Rattle.sched_history.specs.Life.{Admission, Life, life_of, given_in, flow_in_life}
 use Rattle.sched_history.specs.Time.{IsFirstStart}
-use Rattle.sched_history.specs.History.{Answers, flow_status}
+use Rattle.sched_history.specs.History.{AnswersChange, Answers, flow_status}
 use Rattle.sched_calls.specs.Reply.{OwnsMemory}
 use Rattle.sched_history.specs.Audit.{is_told, flat_of}
 
 -- the reply that is told so
 abbrev reply_of : FlatReply → Reply
 reply_of flat.Admitted = replies.Admitted None
+reply_of flat.Changed = replies.Changed None
 reply_of flat.Removed = replies.Removed
 reply_of flat.Taken = replies.Taken
 reply_of flat.Noted = replies.Noted
@@ -35,6 +38,8 @@ reply_of (flat.Refused refusal) = replies.Refused refusal
 flat-reply : (r : Reply) (p : FlatReply) → flat_of r ≡ Some p → r ≡ reply_of p
 flat-reply (replies.Admitted None) p e = ap reply_of (same_Some flat.Admitted p e)
 flat-reply (replies.Admitted (Some placement)) p e = absurd cc
+flat-reply (replies.Changed None) p e = ap reply_of (same_Some flat.Changed p e)
+flat-reply (replies.Changed (Some placement)) p e = absurd cc
 flat-reply replies.Removed p e = ap reply_of (same_Some flat.Removed p e)
 flat-reply replies.Taken p e = ap reply_of (same_Some flat.Taken p e)
 flat-reply replies.Noted p e = ap reply_of (same_Some flat.Noted p e)
@@ -74,6 +79,20 @@ start-one c slot start other first second =
     let down = second.least start first.whole first.reached in
     omega arith
 
+-- a flow without a place has none after a change
+unplaced-given : (c : Config) (h : List Entry) (sid : ℕ) (given : Admission) (spec : FlowSpec) (r : Reply)
+    → not (is_periodic spec) ≡ true → AnswersChange c h sid given spec r → r ≡ replies.Changed None
+unplaced-given c h sid given spec r told (inl (same, answers)) =
+    let periodic = (alike-placed c given.spec spec same).periodic in absurd (cc)
+unplaced-given c h sid given spec r told (inr (inl (other, periodic, answers))) = absurd (cc)
+unplaced-given c h sid given spec r told (inr (inr (aperiodic, is))) = is
+
+unplaced-one : (c : Config) (h : List Entry) (sid : ℕ) (o : Option Life) (spec : FlowSpec) (r : Reply)
+    → not (is_periodic spec) ≡ true → MatchOption o ⊥ (λ life. AnswersChange c h sid (given_in sid life) spec r)
+    → r ≡ replies.Changed None
+unplaced-one c h sid None spec r told answers = absurd answers
+unplaced-one c h sid (Some life) spec r told answers = unplaced-given c h sid (given_in sid life) spec r told answers
+
 IsFlat-told : (c : Config) (h : List Entry) (call : Call) (r : Reply) → is_told call ≡ true → Answers c h call r
     → IsFlat r
 IsFlat-told c h (Admit sid (Unsolicited size interval jitter grants)) r told answers = absurd cc
@@ -89,10 +108,18 @@ IsFlat-told c h (Skip now) r told answers =
 IsFlat-told c h (Status sid) r told answers = IsFlat-status c sid (life_of sid h) r answers
 IsFlat-told c h (Reserve usage slots) r told answers = IsFlat-as r replies.Reserved answers (flat.Reserved, refl)
 IsFlat-told c h (Header header) r told answers = IsFlat-as r replies.Noted answers (flat.Noted, refl)
+IsFlat-told c h (Replace receiver sid amount heard) r told answers =
+    IsFlat-as r replies.Taken answers (flat.Taken, refl)
+IsFlat-told c h (Change sid spec) r told answers =
+    IsFlat-as r (replies.Changed None) (unplaced-one c h sid (life_of sid h) spec r told answers) (flat.Changed, refl)
+IsFlat-told c h (Rest sid) r told answers = IsFlat-as r replies.Noted answers (flat.Noted, refl)
+IsFlat-told c h (Wake sid) r told answers = IsFlat-as r replies.Noted answers (flat.Noted, refl)
 
 flat-owns : (r : Reply) (p : FlatReply) → flat_of r ≡ Some p → OwnsMemory r → ⊥
 flat-owns (replies.Admitted None) p e owns = owns
 flat-owns (replies.Admitted (Some placement)) p e owns = absurd cc
+flat-owns (replies.Changed None) p e owns = owns
+flat-owns (replies.Changed (Some placement)) p e owns = absurd cc
 flat-owns replies.Removed p e owns = owns
 flat-owns replies.Taken p e owns = owns
 flat-owns replies.Noted p e owns = owns
@@ -122,6 +149,12 @@ told-one c h (Skip now) r r' told answers other =
 told-one c h (Status sid) r r' told answers other = status-one c sid (life_of sid h) r r' answers other
 told-one c h (Reserve usage slots) r r' told answers other = answers ∙ sym other
 told-one c h (Header header) r r' told answers other = answers ∙ sym other
+told-one c h (Replace receiver sid amount heard) r r' told answers other = answers ∙ sym other
+told-one c h (Change sid spec) r r' told answers other =
+    unplaced-one c h sid (life_of sid h) spec r told answers
+    ∙ sym (unplaced-one c h sid (life_of sid h) spec r' told other)
+told-one c h (Rest sid) r r' told answers other = answers ∙ sym other
+told-one c h (Wake sid) r r' told answers other = answers ∙ sym other
 
 module _ (c : Config) (h : List Entry) (call : Call) (told : is_told call ≡ true) (answer reply : Reply)
     (answers : Answers c h call answer) where

@@ -1,5 +1,5 @@
 -- The fields that stand for a history with one call more.
-use Rattle.std.proofs.Common.{◌≡◌, ◌≢◌, ℕ, ◌+◌, ◌≤◌, ◌<◌, List, [], ◌∷◌, ◌++◌, length}
+use Rattle.std.proofs.Common.{◌≡◌, ◌≢◌, ℕ, ◌+◌, ◌≤◌, ◌<◌, true, false, List, [], ◌∷◌, ◌++◌, length}
 use Rattle.std.proofs.Common.{set, None, Some, refl, sym, ap, ◌∙◌, arith, inl, inr}
 use Rattle.std.specs.Prelude.{◌==◌, if◌then◌else◌}
 use Rattle.std.proofs.lemmas.Bool.{cases_eq}
@@ -7,9 +7,9 @@ use Rattle.std.proofs.lemmas.Bool.Decides.{nat_tests}
 use Rattle.std.proofs.lemmas.List.{length-set, get_or-set_same, get_or-set_other}
 use Rattle.minislots.specs.declared.stamp.Stamp.{Stamp}
 use Rattle.sched_calls.specs.declared.spec.FlowSpec.{FlowSpec}
-use Rattle.flow_book.specs.Book.{BookView, with_flow, new_flow, without, changed, with_asked}
+use Rattle.flow_book.specs.Book.{BookView, with_flow, new_flow, without, changed, with_asked, with_replaced}
 use Rattle.sched_calls.specs.declared.placement.Placement.{Placement}
-use Rattle.periodic.specs.Table.{with_placed, without as without_placed}
+use Rattle.periodic.specs.Table.{TableView, placed_at, with_placed, without as without_placed, with_rest}
 use Rattle.sched_calls.specs.declared.frame_map.FrameMap.{FrameMap}
 use Rattle.sched_calls.specs.declared.opportunity.Header.{Header}
 use Rattle.sched_calls.specs.declared.opportunity.Usage.{Usage}
@@ -27,6 +27,10 @@ use Rattle.sched_history.specs.Reserves.{new_reserve, reserves_of}
 use Rattle.sched_history.specs.State.{IsStateAfter, IsQuiet}
 use Rattle.sched_history.proofs.lives.FlowsAfter.{flows_of-quiet, table_of-stays}
 use Rattle.sched_history.proofs.flows.FlowCalls.{flows_of-ask, table_of-ask, flows_of-remove, table_of-remove}
+use Rattle.sched_history.proofs.flows.ReplaceCall.{flows_of-replace, table_of-replace}
+use Rattle.sched_history.proofs.flows.RestCalls.{table_of-rest, table_of-wake}
+use Rattle.sched_history.proofs.flows.Quiet.{quiet-heard, quiet-skip, quiet-reserve, quiet-header, quiet-rest}
+use Rattle.sched_history.proofs.flows.Quiet.{quiet-wake}
 use Rattle.sched_history.proofs.flows.Admissions.{flows_of-admit, table_of-admit_placed, table_of-admit_unplaced}
 use Rattle.sched_history.proofs.time.TimeAfter.{next_after-same, next_after-built, next_after-skipped}
 use Rattle.sched_history.proofs.time.TimeAfter.{progress_of-same, progress_of-noted}
@@ -54,8 +58,15 @@ module _ (s : State) (h : List Entry) (is_after : IsStateAfter s h) (stamp : Sta
         lawful = is_after.lawful;
         book_config = is_after.book_config;
         table_config = is_after.table_config;
-        flows = is_after.flows ∙ sym (flows_of-quiet s.config h e quiet.turns quiet.asks quiet.batches quiet.grants);
-        placed = is_after.placed ∙ sym (table_of-stays h e quiet.turns);
+        flows = is_after.flows ∙ sym (flows_of-quiet s.config h e (record {
+          turns = quiet.turns;
+          adds = quiet.adds;
+          replaces = quiet.replaces;
+          changes = quiet.changes;
+          batches = quiet.batches;
+          grants = quiet.grants;
+        }));
+        placed = is_after.placed ∙ sym (table_of-stays h e quiet.turns quiet.changes quiet.rests);
         next = is_after.next ∙ sym (next_after-same s.config h e quiet.skips quiet.builds);
         places = is_after.places;
         progress =
@@ -79,6 +90,68 @@ module _ (s : State) (h : List Entry) (is_after : IsStateAfter s h) (stamp : Sta
         flows = ap (λ b. b.flows) asked ∙ ap (changed sid (with_asked (requested s.config amount) heard)) is_after.flows
             ∙ sym (flows_of-ask stamp h receiver sid amount heard s.config);
         placed = is_after.placed ∙ sym (table_of-ask stamp h receiver sid amount heard);
+        next = is_after.next ∙ sym (next_after-same s.config h e refl refl);
+        places = is_after.places;
+        progress = λ other below. is_after.progress other below ∙ sym (progress_of-same s.config other h e refl);
+        reserves = is_after.reserves ∙ sym (reserves_of-same h e refl refl);
+        header = is_after.header ∙ sym (header_after-same s.config h e refl);
+      }
+
+  -- after a request that replaces others
+  pub IsStateAfter-replaced : (receiver sid : ℕ) (amount : Amount) (heard : ℕ) (book : BookView)
+      → book ≡ record s.book { flows = changed sid (with_replaced (requested s.config amount) heard) s.book.flows }
+      → IsStateAfter (record s { book = book })
+      (h ++ record { stamp = stamp; call = calls.Replace receiver sid amount heard; reply = replies.Taken } ∷ [])
+  IsStateAfter-replaced receiver sid amount heard book replaced =
+      let e : Entry = entry (calls.Replace receiver sid amount heard) replies.Taken in
+      record {
+        lawful = is_after.lawful;
+        book_config = ap (λ b. b.config) replaced ∙ is_after.book_config;
+        table_config = is_after.table_config;
+        flows = ap (λ b. b.flows) replaced
+            ∙ ap (changed sid (with_replaced (requested s.config amount) heard)) is_after.flows
+            ∙ sym (flows_of-replace stamp h receiver sid amount heard s.config);
+        placed = is_after.placed ∙ sym (table_of-replace stamp h receiver sid amount heard);
+        next = is_after.next ∙ sym (next_after-same s.config h e refl refl);
+        places = is_after.places;
+        progress = λ other below. is_after.progress other below ∙ sym (progress_of-same s.config other h e refl);
+        reserves = is_after.reserves ∙ sym (reserves_of-same h e refl refl);
+        header = is_after.header ∙ sym (header_after-same s.config h e refl);
+      }
+
+  -- after a rest
+  pub IsStateAfter-rested : (sid : ℕ) (table : TableView)
+      → table ≡ record s.table { placed = with_rest sid true s.table.placed }
+      → IsStateAfter (record s { table = table })
+      (h ++ record { stamp = stamp; call = calls.Rest sid; reply = replies.Noted } ∷ [])
+  IsStateAfter-rested sid table is =
+      let e : Entry = entry (calls.Rest sid) replies.Noted in
+      record {
+        lawful = is_after.lawful;
+        book_config = is_after.book_config;
+        table_config = ap (λ t. t.config) is ∙ is_after.table_config;
+        flows = is_after.flows ∙ sym (flows_of-quiet s.config h e (quiet-rest s.config sid));
+        placed = ap (λ t. t.placed) is ∙ ap (with_rest sid true) is_after.placed ∙ sym (table_of-rest stamp h sid);
+        next = is_after.next ∙ sym (next_after-same s.config h e refl refl);
+        places = is_after.places;
+        progress = λ other below. is_after.progress other below ∙ sym (progress_of-same s.config other h e refl);
+        reserves = is_after.reserves ∙ sym (reserves_of-same h e refl refl);
+        header = is_after.header ∙ sym (header_after-same s.config h e refl);
+      }
+
+  -- after a wake
+  pub IsStateAfter-woken : (sid : ℕ) (table : TableView)
+      → table ≡ record s.table { placed = with_rest sid false s.table.placed }
+      → IsStateAfter (record s { table = table })
+      (h ++ record { stamp = stamp; call = calls.Wake sid; reply = replies.Noted } ∷ [])
+  IsStateAfter-woken sid table is =
+      let e : Entry = entry (calls.Wake sid) replies.Noted in
+      record {
+        lawful = is_after.lawful;
+        book_config = is_after.book_config;
+        table_config = ap (λ t. t.config) is ∙ is_after.table_config;
+        flows = is_after.flows ∙ sym (flows_of-quiet s.config h e (quiet-wake s.config sid));
+        placed = ap (λ t. t.placed) is ∙ ap (with_rest sid false) is_after.placed ∙ sym (table_of-wake stamp h sid);
         next = is_after.next ∙ sym (next_after-same s.config h e refl refl);
         places = is_after.places;
         progress = λ other below. is_after.progress other below ∙ sym (progress_of-same s.config other h e refl);
@@ -137,7 +210,7 @@ module _ (s : State) (h : List Entry) (is_after : IsStateAfter s h) (stamp : Sta
       → life_of sid h ≡ None → 1 ≤ sid → sid ≤ 8191
       → s'.book.config ≡ s.book.config → s'.book.flows ≡ with_flow (new_flow sid spec) s.book.flows
       → s'.table.config ≡ s.table.config → s'.table.placed
-      ≡ with_placed (record { sid = sid; spec = spec; placement = p }) s.table.placed
+      ≡ with_placed (placed_at sid spec p) s.table.placed
       → IsStateAfter s'
       (h ++ record { stamp = stamp; call = calls.Admit sid spec; reply = replies.Admitted (Some p) } ∷ [])
   IsStateAfter-placed sid spec p s' same fresh low high book_config flows table_config placed =
@@ -149,7 +222,7 @@ module _ (s : State) (h : List Entry) (is_after : IsStateAfter s h) (stamp : Sta
         table_config = table_config ∙ is_after.table_config;
         flows = flows ∙ ap (with_flow (new_flow sid spec)) is_after.flows
             ∙ sym (flows_of-admit stamp h sid spec (Some p) s.config fresh low high);
-        placed = placed ∙ ap (with_placed (record { sid = sid; spec = spec; placement = p })) is_after.placed
+        placed = placed ∙ ap (with_placed (placed_at sid spec p)) is_after.placed
             ∙ sym (table_of-admit_placed stamp h sid spec p fresh low high);
         next = is_after.next ∙ sym (next_after-same s.config h e refl refl);
         places = is_after.places;
@@ -169,8 +242,8 @@ module _ (s : State) (h : List Entry) (is_after : IsStateAfter s h) (stamp : Sta
         lawful = is_after.lawful;
         book_config = is_after.book_config;
         table_config = is_after.table_config;
-        flows = is_after.flows ∙ sym (flows_of-quiet s.config h e (λ sid. refl) (λ sid. refl) (λ sid asked granted b. refl) (λ sid. refl));
-        placed = is_after.placed ∙ sym (table_of-stays h e (λ sid. refl));
+        flows = is_after.flows ∙ sym (flows_of-quiet s.config h e (quiet-heard s.config receiver upto));
+        placed = is_after.placed ∙ sym (table_of-stays h e (λ sid. refl) (λ sid. refl) (λ sid. refl));
         next = is_after.next ∙ sym (next_after-same s.config h e refl refl);
         places = length-set s.progress receiver upto ∙ is_after.places;
         progress = λ other below. elim (cases_eq receiver other) [
@@ -193,8 +266,8 @@ module _ (s : State) (h : List Entry) (is_after : IsStateAfter s h) (stamp : Sta
         lawful = is_after.lawful;
         book_config = is_after.book_config;
         table_config = is_after.table_config;
-        flows = is_after.flows ∙ sym (flows_of-quiet s.config h e (λ sid. refl) (λ sid. refl) (λ sid asked granted b. refl) (λ sid. refl));
-        placed = is_after.placed ∙ sym (table_of-stays h e (λ sid. refl));
+        flows = is_after.flows ∙ sym (flows_of-quiet s.config h e (quiet-skip s.config now next));
+        placed = is_after.placed ∙ sym (table_of-stays h e (λ sid. refl) (λ sid. refl) (λ sid. refl));
         next = sym (next_after-skipped s.config h e next refl);
         places = is_after.places;
         progress = λ other below. is_after.progress other below ∙ sym (progress_of-same s.config other h e refl);
@@ -217,7 +290,7 @@ module _ (s : State) (h : List Entry) (is_after : IsStateAfter s h) (stamp : Sta
         book_config = book_config;
         table_config = is_after.table_config;
         flows = flows;
-        placed = is_after.placed ∙ sym (table_of-stays h e (λ sid. refl));
+        placed = is_after.placed ∙ sym (table_of-stays h e (λ sid. refl) (λ sid. refl) (λ sid. refl));
         next = ap (λ n. n + s.config.frame) is_after.next ∙ sym (next_after-built s.config h e m refl);
         places = is_after.places;
         progress = λ other below. is_after.progress other below ∙ sym (progress_of-same s.config other h e refl);
@@ -235,8 +308,8 @@ module _ (s : State) (h : List Entry) (is_after : IsStateAfter s h) (stamp : Sta
         lawful = is_after.lawful;
         book_config = is_after.book_config;
         table_config = is_after.table_config;
-        flows = is_after.flows ∙ sym (flows_of-quiet s.config h e (λ sid. refl) (λ sid. refl) (λ sid asked granted b. refl) (λ sid. refl));
-        placed = is_after.placed ∙ sym (table_of-stays h e (λ sid. refl));
+        flows = is_after.flows ∙ sym (flows_of-quiet s.config h e (quiet-reserve s.config usage slots));
+        placed = is_after.placed ∙ sym (table_of-stays h e (λ sid. refl) (λ sid. refl) (λ sid. refl));
         next = is_after.next ∙ sym (next_after-same s.config h e refl refl);
         places = is_after.places;
         progress = λ other below. is_after.progress other below ∙ sym (progress_of-same s.config other h e refl);
@@ -254,8 +327,8 @@ module _ (s : State) (h : List Entry) (is_after : IsStateAfter s h) (stamp : Sta
         lawful = is_after.lawful;
         book_config = is_after.book_config;
         table_config = is_after.table_config;
-        flows = is_after.flows ∙ sym (flows_of-quiet s.config h e (λ sid. refl) (λ sid. refl) (λ sid asked granted b. refl) (λ sid. refl));
-        placed = is_after.placed ∙ sym (table_of-stays h e (λ sid. refl));
+        flows = is_after.flows ∙ sym (flows_of-quiet s.config h e (quiet-header s.config header));
+        placed = is_after.placed ∙ sym (table_of-stays h e (λ sid. refl) (λ sid. refl) (λ sid. refl));
         next = is_after.next ∙ sym (next_after-same s.config h e refl refl);
         places = is_after.places;
         progress = λ other below. is_after.progress other below ∙ sym (progress_of-same s.config other h e refl);

@@ -8,7 +8,9 @@ use Rattle.minislots.specs.declared.config.Config.{Config}
 use Rattle.sched_calls.specs.declared.spec.FlowSpec.{FlowSpec}
 use Rattle.sched_calls.specs.declared.spec.FlowSpec.TheVariants.{Unsolicited, Polled, BestEffort}
 use Rattle.sched_calls.specs.FlowSpec.{is_periodic, takes_requests}
-use Rattle.flow_book.specs.Flows.{flow_of}
+use Rattle.flow_book.specs.Flows.{LiveFlow, granted, flow_of}
+use Rattle.periodic.proofs.Joined.{all-both}
+use Rattle.sched_history.specs.Facts.{IsWithinAsked}
 use Rattle.flow_book.specs.Book.{IsLive}
 use Rattle.sched_calls.specs.declared.placement.Placement.{Placement}
 use Rattle.periodic.specs.Placement.{Placed, IsPlacement, NoPlacement}
@@ -17,23 +19,24 @@ use Rattle.sched_history.specs.declared.scheduler.state.State.{State}
 use Rattle.sched_calls.specs.declared.reply.Reply.{Reply}
 use Rattle.sched_calls.specs.declared.reply.Reply.TheVariants as replies
 use Rattle.sched_calls.specs.declared.reply.Entry.{Entry}
-use Rattle.sched_history.specs.Life.{Life, life_of, flow_in_life, placed_in_life, table_of}
+use Rattle.sched_history.specs.Life.{Life, life_of, given_in, rests_in, flow_in_life, placed_in_life, table_of}
 use Rattle.sched_history.specs.Refusal.{bad_sid, is_live, is_silent, most_bytes}
 use Rattle.sched_history.specs.Time.{next_after}
 use Rattle.sched_history.specs.History.{AnswersAdmit, PlacesOrRefuses, IsLegal, flow_status}
 use Rattle.sched_history.specs.Machine.{IsPlaceable}
 use Rattle.sched_history.specs.State.{IsStateAfter}
 use Rattle.sched_history.proofs.lives.Finding.{flow_of-flows_of, find-table_of, good_sid, life_of-dead}
+use Rattle.sched_history.proofs.lives.FlowsAfter.{placed_with}
 use Rattle.sched_history.proofs.placements.Counts.{IsPaired, life_of-pairs}
 use Rattle.sched_history.proofs.state.Sums.{find-all}
 use Rattle.sched_history.proofs.steps.Passed.{IsKnown}
 
 -- the parameters of a life
-abbrev pub spec_in : Life → FlowSpec
-spec_in life = life.admission.spec
+abbrev pub spec_in : ℕ → Life → FlowSpec
+spec_in sid life = (given_in sid life).spec
 
 spec-map : (c : Config) (sid : ℕ) (o : Option Life) → option_map (λ f. f.spec) (option_map (flow_in_life c sid) o)
-    ≡ option_map spec_in o
+    ≡ option_map (spec_in sid) o
 spec-map c sid None = refl
 spec-map c sid (Some life) = refl
 
@@ -52,33 +55,37 @@ told : (c : Config) (sid : ℕ) (o : Option Life) (reply : Reply) → is_some o 
 told c sid None reply live same = absurd cc
 told c sid (Some life) reply live same = sym same
 
-placement-some : (sid : ℕ) (spec : FlowSpec) (placement : Option Placement) → is_some placement ≡ true
-    → IsSome {T = Placed} (option_map (λ p. record { sid = sid; spec = spec; placement = p }) placement)
-placement-some sid spec None e = absurd cc
-placement-some sid spec (Some p) e = refl
+-- a life with a placement is placed
+pub placement-some : (sid : ℕ) (spec : FlowSpec) (rests : Bool) (placement : Option Placement) → is_some placement ≡ true
+    → IsSome {T = Placed} (option_map (placed_with sid spec rests) placement)
+placement-some sid spec rests None e = absurd cc
+placement-some sid spec rests (Some p) e = refl
 
-placement-none : (sid : ℕ) (spec : FlowSpec) (placement : Option Placement) → is_some placement ≡ false
-    → ◌≡◌ {A = Option Placed} (option_map (λ p. record { sid = sid; spec = spec; placement = p }) placement) None
-placement-none sid spec None e = refl
-placement-none sid spec (Some p) e = absurd cc
+placement-none : (sid : ℕ) (spec : FlowSpec) (rests : Bool) (placement : Option Placement) → is_some placement ≡ false
+    → ◌≡◌ {A = Option Placed}
+    (option_map (placed_with sid spec rests) placement) None
+placement-none sid spec rests None e = refl
+placement-none sid spec rests (Some p) e = absurd cc
 
-placed-when : (c : Config) (sid : ℕ) (o : Option Life) → ((life : Life) → o ≡ Some life → IsPaired life.admission)
+placed-when : (c : Config) (sid : ℕ) (o : Option Life) → ((life : Life) → o ≡ Some life → IsPaired (given_in sid life))
     → IfSome (option_map (flow_in_life c sid) o) (λ f. is_periodic f.spec ≡ true
     → IsSome (option_and_then (placed_in_life sid) o))
 placed-when c sid None paired = tt
-placed-when c sid (Some life) paired = λ periodic. placement-some sid life.admission.spec life.admission.placement
+placed-when c sid (Some life) paired = λ periodic.
+    placement-some sid (given_in sid life).spec (rests_in sid life.since) (given_in sid life).placement
     (paired life refl ∙ periodic)
 
 not_true : (b : Bool) → b ≢ true → b ≡ false
 not_true true h = absurd (h refl)
 not_true false h = refl
 
-unplaced-when : (c : Config) (sid : ℕ) (o : Option Life) → ((life : Life) → o ≡ Some life → IsPaired life.admission)
+unplaced-when : (c : Config) (sid : ℕ) (o : Option Life) → ((life : Life) → o ≡ Some life → IsPaired (given_in sid life))
     → IfSome (option_map (flow_in_life c sid) o) (λ f. is_periodic f.spec ≢ true
     → option_and_then (placed_in_life sid) o ≡ None)
 unplaced-when c sid None paired = tt
-unplaced-when c sid (Some life) paired = λ aperiodic. placement-none sid life.admission.spec life.admission.placement
-    (paired life refl ∙ not_true (is_periodic life.admission.spec) aperiodic)
+unplaced-when c sid (Some life) paired = λ aperiodic.
+    placement-none sid (given_in sid life).spec (rests_in sid life.since) (given_in sid life).placement
+    (paired life refl ∙ not_true (is_periodic (given_in sid life).spec) aperiodic)
 
 unplaced-life : (sid : ℕ) (o : Option Life) → o ≡ None → option_and_then (placed_in_life sid) o ≡ None
 unplaced-life sid o none = rw none refl
@@ -97,6 +104,15 @@ without_placed-none sid (p ∷ placed) none =
     let both = passed_over (p.sid == sid) p (find (λ q. q.sid == sid) placed) none in
     rw (both.0) (ap (λ ps. p ∷ ps) (without_placed-none sid placed both.1))
 
+-- the bytes granted and those of one request fit 64 bits
+pub replaced-fits : (s : State) (h : List Entry) (sid bytes : ℕ) → bytes < 2 ^ 32 → length h ≤ 17592186044416
+    → AllByRecursion (λ f. f.asked ≤ most_bytes * length h) s.book.flows → AllByRecursion IsWithinAsked s.book.flows
+    → IfSome (flow_of sid s.book.flows) (λ f. granted f + bytes < 2 ^ 64)
+replaced-fits s h sid bytes low short all within =
+    find-all (λ f. granted f + bytes < 2 ^ 64) (λ f. f.sid == sid) s.book.flows
+    (all-both (λ (f : LiveFlow). f.asked ≤ most_bytes * length h) IsWithinAsked (λ f. granted f + bytes < 2 ^ 64)
+    (λ f most few. omega (arith, most, few, low, short)) s.book.flows all within)
+
 -- the bytes of one request more fit 64 bits
 pub asked-fits : (s : State) (h : List Entry) (sid bytes : ℕ) → bytes < 2 ^ 32 → length h ≤ 17592186044416
     → AllByRecursion (λ f. f.asked ≤ most_bytes * length h) s.book.flows
@@ -111,10 +127,10 @@ takes-not true e = refl
 takes-not false e = absurd (cc)
 
 takes-in : (c : Config) (sid : ℕ) (o : Option Life)
-    → option_map_or (λ life. not (takes_requests life.admission.spec)) o false ≡ false
+    → option_map_or (λ life. not (takes_requests (given_in sid life).spec)) o false ≡ false
     → IfSome (option_map (flow_in_life c sid) o) (λ f. takes_requests f.spec ≡ true)
 takes-in c sid None asks = tt
-takes-in c sid (Some life) asks = takes-not (takes_requests life.admission.spec) asks
+takes-in c sid (Some life) asks = takes-not (takes_requests (given_in sid life).spec) asks
 
 module _ (s : State) (h : List Entry) (sid : ℕ) (is_after : IsStateAfter s h) where
   module _ (good : bad_sid sid ≡ false) where
@@ -123,7 +139,7 @@ module _ (s : State) (h : List Entry) (sid : ℕ) (is_after : IsStateAfter s h) 
     flow_of-after = rw (is_after.flows) (flow_of-flows_of s.config sid h (good_sid sid good).0 (good_sid sid good).1)
 
     -- and its parameters
-    pub spec_of-after : option_map (λ f. f.spec) (flow_of sid s.book.flows) ≡ option_map spec_in (life_of sid h)
+    pub spec_of-after : option_map (λ f. f.spec) (flow_of sid s.book.flows) ≡ option_map (spec_in sid) (life_of sid h)
     spec_of-after = rw (flow_of-after) (spec-map s.config sid (life_of sid h))
 
     -- its placement

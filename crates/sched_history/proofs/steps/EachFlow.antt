@@ -5,7 +5,7 @@ use Rattle.std.specs.List.{AllByRecursion}
 use Rattle.minislots.specs.declared.config.Config.{Config}
 use Rattle.sched_calls.specs.declared.spec.FlowSpec.{FlowSpec}
 use Rattle.flow_book.specs.Flows.{LiveFlow}
-use Rattle.flow_book.specs.Book.{with_flow, new_flow, with_asked}
+use Rattle.flow_book.specs.Book.{with_flow, new_flow, with_asked, with_replaced, with_spec}
 use Rattle.flow_book.proofs.Order.{all-implied}
 use Rattle.flow_book.proofs.Removal.{all-filter}
 use Rattle.sched_calls.specs.declared.frame_map.FrameMap.{FrameMap}
@@ -15,7 +15,8 @@ use Rattle.sched_history.specs.Life.{flows_of}
 use Rattle.sched_history.specs.Time.{next_after}
 use Rattle.sched_history.specs.Refusal.{most_bytes}
 use Rattle.sched_history.specs.History.{IsNextMap}
-use Rattle.sched_history.proofs.steps.EntryChanges.{EntryChange, Nothing, Asked, Began, Ended, Described, Skipped}
+use Rattle.sched_history.proofs.steps.EntryChanges.{EntryChange, Nothing, Asked, Replaced, Changed, Began}
+use Rattle.sched_history.proofs.steps.EntryChanges.{Ended, Described, Skipped}
 
 -- what follows of each holds of the image of each
 all-image : {X : Type 0} (P Q : X → Type 0) (k : X → X) (xs : List X) → ((x : X) → P x → Q (k x))
@@ -41,10 +42,13 @@ turned : (Q : LiveFlow → Type 0) (b : Bool) (f g : LiveFlow) → Q f → Q g �
 turned Q true f g this other = this
 turned Q false f g this other = other
 
--- What Q asks of a flow, where P held before: as it was, with a request or the grants of a MAP more, just admitted
+-- What Q asks of a flow, where P held before: as it was, with a request or the grants of a MAP more, with a request in
+-- the place of others, with other parameters, just admitted
 pub record Carries (c : Config) (h new : List Entry) (P Q : LiveFlow → Type 0) : Type 0 where
   pub stays : (f : LiveFlow) → P f → Q f
   pub asks : (bytes heard : ℕ) (f : LiveFlow) → bytes ≤ most_bytes → P f → Q (with_asked bytes heard f)
+  pub replaces : (bytes heard : ℕ) (f : LiveFlow) → bytes ≤ most_bytes → P f → Q (with_replaced bytes heard f)
+  pub changes : (spec : FlowSpec) (f : LiveFlow) → P f → Q (with_spec spec f)
   pub begins : (sid : ℕ) (spec : FlowSpec) → Q (new_flow sid spec)
   pub grants : (m : FrameMap) (map : IsNextMap c h m) → next_after c new ≡ next_after c h + c.frame → (f : LiveFlow)
       → P f → Q (flow_after (next_after c h) map.0 f)
@@ -57,6 +61,14 @@ each_after c h new P Q carries change all = elim change [
   | Asked sid bytes heard few flows next ↦
       rw flows (all-image P Q (λ f. if f.sid == sid then with_asked bytes heard f else f) (flows_of c h)
       (λ f holds. turned Q (f.sid == sid) (with_asked bytes heard f) f (carries.asks bytes heard f few holds)
+      (carries.stays f holds)) all)
+  | Replaced sid bytes heard few flows next ↦
+      rw flows (all-image P Q (λ f. if f.sid == sid then with_replaced bytes heard f else f) (flows_of c h)
+      (λ f holds. turned Q (f.sid == sid) (with_replaced bytes heard f) f (carries.replaces bytes heard f few holds)
+      (carries.stays f holds)) all)
+  | Changed sid spec may flows next ↦
+      rw flows (all-image P Q (λ f. if f.sid == sid then with_spec spec f else f) (flows_of c h)
+      (λ f holds. turned Q (f.sid == sid) (with_spec spec f) f (carries.changes spec f holds)
       (carries.stays f holds)) all)
   | Began sid spec may flows next ↦
       rw flows (all-with_flow Q (new_flow sid spec) (flows_of c h) (carries.begins sid spec)

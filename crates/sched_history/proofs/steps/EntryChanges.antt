@@ -10,9 +10,8 @@ use Rattle.sched_calls.specs.declared.spec.FlowSpec.{FlowSpec}
 use Rattle.sched_calls.specs.declared.spec.FlowSpec.TheVariants.{Unsolicited, Polled, BestEffort}
 use Rattle.sched_calls.specs.FlowSpec.{takes_requests}
 use Rattle.sched_calls.specs.Amount.{requested}
-use Rattle.flow_book.specs.declared.batches.Batches.{Batches}
 use Rattle.flow_book.specs.Flows.{LiveFlow, granted, outstanding}
-use Rattle.flow_book.specs.Book.{with_flow, without, changed, new_flow, with_asked}
+use Rattle.flow_book.specs.Book.{with_flow, without, changed, new_flow, with_asked, with_replaced, with_spec}
 use Rattle.sched_calls.specs.declared.placement.Placement.{Placement}
 use Rattle.sched_calls.specs.declared.frame_map.FrameMap.{FrameMap}
 use Rattle.map_build.specs.Plan.{flows_after}
@@ -23,26 +22,38 @@ use Rattle.sched_calls.specs.declared.reply.Refusal.TheVariants.{NoPlace}
 use Rattle.sched_calls.specs.declared.reply.Reply.{Reply}
 use Rattle.sched_calls.specs.declared.reply.Reply.TheVariants as replies
 use Rattle.sched_calls.specs.declared.reply.Entry.{Entry}
-use Rattle.sched_history.specs.Life.{turn_by, asked_by, grants_by, batches_by, Life, life_of, flow_in_life, flows_of}
+use Rattle.sched_history.specs.Life.{Admission, Life, life_of, given_in, flow_in_life, flows_of}
 use Rattle.sched_history.specs.Time.{skip_by, is_built, next_after, IsFirstStart}
 use Rattle.sched_history.specs.Refusal.{most_bytes, most_ahead, last_clock, refusal_of}
-use Rattle.sched_history.specs.History.{PlacesOrRefuses, AnswersAdmit, flow_status, IsNextMap}
-use Rattle.sched_history.specs.History.{Answers, IsStep}
+use Rattle.sched_history.specs.History.{PlacesOrRefuses, AnswersAdmit, PlacesAnew, AnswersChange, flow_status}
+use Rattle.sched_history.specs.History.{IsNextMap, Answers, IsStep}
 use Rattle.sched_history.proofs.lives.Finding.{good_sid, life_of-dead}
-use Rattle.sched_history.proofs.lives.FlowsAfter.{flows_of-quiet}
+use Rattle.sched_history.proofs.lives.FlowsAfter.{LeavesFlows, flows_of-quiet}
 use Rattle.sched_history.proofs.flows.Refused.{flows_of-refused}
 use Rattle.sched_history.proofs.flows.FlowCalls.{flows_of-ask, flows_of-remove}
+use Rattle.sched_history.proofs.flows.ReplaceCall.{flows_of-replace}
+use Rattle.sched_history.proofs.flows.ChangeCall.{flows_of-change}
+use Rattle.sched_history.proofs.flows.Quiet.{quiet-heard, quiet-skip, quiet-status, quiet-reserve, quiet-header}
+use Rattle.sched_history.proofs.flows.Quiet.{quiet-rest, quiet-wake}
 use Rattle.sched_history.proofs.flows.Admissions.{flows_of-admit}
 use Rattle.sched_history.proofs.flows.BuildCall.{flows_of-build_next}
 use Rattle.sched_history.proofs.time.TimeAfter.{next_after-built, next_after-same, next_after-skipped}
 use Rattle.sched_history.proofs.time.FirstStarts.{first_start-near}
-use Rattle.sched_history.proofs.steps.Passed.{AdmitsFlow, passed-admit, passed-ask, passed-build, passed-skip}
+use Rattle.sched_history.proofs.steps.Passed.{AdmitsFlow, ChangesFlow, passed-admit, passed-ask, passed-replace}
+use Rattle.sched_history.proofs.steps.Passed.{passed-change, passed-build, passed-skip}
 
 -- what an entry changes, from one history to the next
 pub data EntryChange (c : Config) (h new : List Entry) : Type 0 where
   Nothing : flows_of c new ≡ flows_of c h → next_after c new ≡ next_after c h → EntryChange c h new
   Asked : (sid bytes heard : ℕ) → bytes ≤ most_bytes
-      → flows_of c new ≡ changed sid (with_asked bytes heard) (flows_of c h) → next_after c new ≡ next_after c h → EntryChange c h new
+      → flows_of c new ≡ changed sid (with_asked bytes heard) (flows_of c h) → next_after c new ≡ next_after c h
+      → EntryChange c h new
+  Replaced : (sid bytes heard : ℕ) → bytes ≤ most_bytes
+      → flows_of c new ≡ changed sid (with_replaced bytes heard) (flows_of c h) → next_after c new ≡ next_after c h
+      → EntryChange c h new
+  Changed : (sid : ℕ) (spec : FlowSpec) → ChangesFlow c h sid spec
+      → flows_of c new ≡ changed sid (with_spec spec) (flows_of c h) → next_after c new ≡ next_after c h
+      → EntryChange c h new
   Began : (sid : ℕ) (spec : FlowSpec) → AdmitsFlow c h sid spec
       → flows_of c new ≡ with_flow (new_flow sid spec) (flows_of c h) → next_after c new ≡ next_after c h
       → EntryChange c h new
@@ -105,7 +116,7 @@ module _ (c : Config) (lawful : IsLawful c) (stamp : Stamp) (h : List Entry) whe
       → EntryChange c h (after (calls.Status sid) (replies.Flow asked granted left))
   told sid asked granted left =
       let reply : Reply = replies.Flow asked granted left in
-      Nothing (flows_of-quiet c h (entry (calls.Status sid) reply) (λ other. refl) (λ other. refl) (λ other asked granted b. refl) (λ other. refl))
+      Nothing (flows_of-quiet c h (entry (calls.Status sid) reply) (quiet-status c sid asked granted left))
       (same_next (calls.Status sid) reply refl refl)
 
   tells_sums : (sid : ℕ) (b : Bool) (asked granted left : ℕ)
@@ -123,19 +134,38 @@ module _ (c : Config) (lawful : IsLawful c) (stamp : Stamp) (h : List Entry) whe
       (tells_sums sid (takes_requests f.spec) f.asked (granted f) (outstanding f))
 
   -- a call that changes neither flows nor the next frame
-  quiet : (call : Call) (reply : Reply) → ((sid : ℕ) → turn_by sid call reply ≡ None)
-      → ((sid : ℕ) → asked_by c sid call reply ≡ 0)
-      → ((sid asked granted : ℕ) (b : Batches) → batches_by c sid call reply b asked granted ≡ b)
-      → ((sid : ℕ) → grants_by sid reply ≡ []) → skip_by reply ≡ None
-      → is_built reply ≡ false → EntryChange c h (after call reply)
-  quiet call reply turns asks batches grants skips builds =
-      Nothing (flows_of-quiet c h (entry call reply) turns asks batches grants) (same_next call reply skips builds)
+  quiet : (call : Call) (reply : Reply) → LeavesFlows c call reply → skip_by reply ≡ None → is_built reply ≡ false
+      → EntryChange c h (after call reply)
+  quiet call reply leaves skips builds =
+      Nothing (flows_of-quiet c h (entry call reply) leaves) (same_next call reply skips builds)
 
-  heard : (receiver upto : ℕ) → EntryChange c h (after (calls.Heard receiver upto) replies.Noted)
-  heard receiver upto =
-      let e : Entry = entry (calls.Heard receiver upto) replies.Noted in
-      Nothing (flows_of-quiet c h e (λ sid. refl) (λ sid. refl) (λ sid asked granted b. refl) (λ sid. refl))
-      (same_next (calls.Heard receiver upto) replies.Noted refl refl)
+  -- a change of a flow's parameters
+  gave : (sid : ℕ) (spec : FlowSpec) (place : Option Placement) → ChangesFlow c h sid spec
+      → EntryChange c h (after (calls.Change sid spec) (replies.Changed place))
+  gave sid spec place may =
+      Changed sid spec may (flows_of-change stamp h sid spec place c)
+      (same_next (calls.Change sid spec) (replies.Changed place) refl refl)
+
+  anew : (sid : ℕ) (spec : FlowSpec) (reply : Reply) → ChangesFlow c h sid spec → PlacesAnew c h sid spec reply
+      → EntryChange c h (after (calls.Change sid spec) reply)
+  anew sid spec reply may (inl (p, lawful, is)) =
+      by_reply (calls.Change sid spec) reply (replies.Changed (Some p)) is (gave sid spec (Some p) may)
+  anew sid spec reply may (inr (never, is)) =
+      by_reply (calls.Change sid spec) reply (replies.Refused NoPlace) is (refused (calls.Change sid spec) NoPlace)
+
+  gives : (sid : ℕ) (spec : FlowSpec) (given : Admission) (reply : Reply) → ChangesFlow c h sid spec
+      → AnswersChange c h sid given spec reply → EntryChange c h (after (calls.Change sid spec) reply)
+  gives sid spec given reply may (inl (same, (p, told, is))) =
+      by_reply (calls.Change sid spec) reply (replies.Changed (Some p)) is (gave sid spec (Some p) may)
+  gives sid spec given reply may (inr (inl (other, periodic, answers))) = anew sid spec reply may answers
+  gives sid spec given reply may (inr (inr (aperiodic, is))) =
+      by_reply (calls.Change sid spec) reply (replies.Changed None) is (gave sid spec None may)
+
+  changes : (sid : ℕ) (spec : FlowSpec) (o : Option Life) (reply : Reply) → ChangesFlow c h sid spec
+      → MatchOption o ⊥ (λ life. AnswersChange c h sid (given_in sid life) spec reply)
+      → EntryChange c h (after (calls.Change sid spec) reply)
+  changes sid spec None reply may answers = absurd answers
+  changes sid spec (Some life) reply may answers = gives sid spec (given_in sid life) reply may answers
 
   skips : (now start : ℕ) → IsFirstStart c (now + c.lead) start → refusal_of c h (calls.Skip now) ≡ None
       → EntryChange c h (after (calls.Skip now) (replies.Skipped start))
@@ -145,7 +175,7 @@ module _ (c : Config) (lawful : IsLawful c) (stamp : Stamp) (h : List Entry) whe
       let bounds : HasBounds c = bounds_of c lawful in
       let near : start < now + c.lead + c.frame =
       first_start-near c (now + c.lead) (omega (arith, bounds.frame_least)) start first in
-      Skipped start (flows_of-quiet c h e (λ sid. refl) (λ sid. refl) (λ sid asked granted b. refl) (λ sid. refl))
+      Skipped start (flows_of-quiet c h e (quiet-skip c now start))
       (next_after-skipped c h e start refl) (omega (arith, late.late, first.reached)) first.whole
       (omega (arith, late.clock, near, bounds.lead_most))
 
@@ -170,7 +200,21 @@ module _ (c : Config) (lawful : IsLawful c) (stamp : Stamp) (h : List Entry) whe
       (flows_of-ask stamp h receiver sid amount heard c)
       (same_next (calls.Ask receiver sid amount heard) replies.Taken refl refl))
   answered (calls.Heard receiver upto) reply none answers =
-      by_reply (calls.Heard receiver upto) reply replies.Noted answers (heard receiver upto)
+      by_reply (calls.Heard receiver upto) reply replies.Noted answers
+      (quiet (calls.Heard receiver upto) replies.Noted (quiet-heard c receiver upto) refl refl)
+  answered (calls.Replace receiver sid amount heard) reply none answers =
+      by_reply (calls.Replace receiver sid amount heard) reply replies.Taken answers
+      (Replaced sid (requested c amount) heard (passed-replace c h receiver sid amount heard none).most
+      (flows_of-replace stamp h receiver sid amount heard c)
+      (same_next (calls.Replace receiver sid amount heard) replies.Taken refl refl))
+  answered (calls.Change sid spec) reply none answers =
+      changes sid spec (life_of sid h) reply (passed-change c h sid spec none) answers
+  answered (calls.Rest sid) reply none answers =
+      by_reply (calls.Rest sid) reply replies.Noted answers
+      (quiet (calls.Rest sid) replies.Noted (quiet-rest c sid) refl refl)
+  answered (calls.Wake sid) reply none answers =
+      by_reply (calls.Wake sid) reply replies.Noted answers
+      (quiet (calls.Wake sid) replies.Noted (quiet-wake c sid) refl refl)
   answered (calls.Build now) reply none answers =
       by_reply (calls.Build now) reply (replies.Built answers.0) answers.2 (builds now answers.0 answers.1 none)
   answered (calls.Skip now) reply none answers =
@@ -178,12 +222,10 @@ module _ (c : Config) (lawful : IsLawful c) (stamp : Stamp) (h : List Entry) whe
   answered (calls.Status sid) reply none answers = tells sid (life_of sid h) reply answers
   answered (calls.Reserve usage slots) reply none answers =
       by_reply (calls.Reserve usage slots) reply replies.Reserved answers
-      (quiet (calls.Reserve usage slots) replies.Reserved (λ sid. refl) (λ sid. refl) (λ sid asked granted b. refl)
-      (λ sid. refl) refl refl)
+      (quiet (calls.Reserve usage slots) replies.Reserved (quiet-reserve c usage slots) refl refl)
   answered (calls.Header header) reply none answers =
       by_reply (calls.Header header) reply replies.Noted answers
-      (quiet (calls.Header header) replies.Noted (λ sid. refl) (λ sid. refl) (λ sid asked granted b. refl)
-      (λ sid. refl) refl refl)
+      (quiet (calls.Header header) replies.Noted (quiet-header c header) refl refl)
 
   stepped : (call : Call) (reply : Reply) (o : Option Refusal) → refusal_of c h call ≡ o
       → MatchOption o (Answers c h call reply) (λ refusal. reply ≡ replies.Refused refusal)

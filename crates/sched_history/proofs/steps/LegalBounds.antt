@@ -8,20 +8,22 @@ use Rattle.minislots.specs.declared.config.Config.{Config}
 use Rattle.minislots.specs.Config.{IsLawful}
 use Rattle.minislots.proofs.Bounds.{bounds_of}
 use Rattle.flow_book.specs.declared.flow.Grant.{Grant}
-use Rattle.flow_book.specs.Flows.{LiveFlow}
+use Rattle.flow_book.specs.Flows.{LiveFlow, granted}
 use Rattle.flow_book.specs.Choice.{HasStartedBy}
 use Rattle.flow_book.specs.Book.{new_flow}
 use Rattle.flow_book.proofs.Order.{all-implied}
-use Rattle.periodic.proofs.Joined.{all-append}
+use Rattle.periodic.proofs.Joined.{all-append, all-both}
 use Rattle.map_build.specs.Plan.{grants_to}
 use Rattle.sched_calls.specs.declared.reply.Entry.{Entry}
 use Rattle.sched_history.specs.Life.{flows_of}
 use Rattle.sched_history.specs.Time.{next_after}
 use Rattle.sched_history.specs.Refusal.{most_bytes, most_ahead, last_clock}
 use Rattle.sched_history.specs.History.{demand_after, IsLegal}
+use Rattle.sched_history.specs.Facts.{IsWithinAsked}
+use Rattle.sched_history.proofs.facts.SoundLives.{within_asked}
 use Rattle.sched_history.proofs.lives.LiveFlows.{flows_of-none}
 use Rattle.sched_history.proofs.steps.LegalHistories.{legal_induction}
-use Rattle.sched_history.proofs.steps.EntryChanges.{EntryChange, Nothing, Asked, Began, Ended}
+use Rattle.sched_history.proofs.steps.EntryChanges.{EntryChange, Nothing, Asked, Replaced, Changed, Began, Ended}
 use Rattle.sched_history.proofs.steps.EntryChanges.{Described, Skipped, change_of}
 use Rattle.sched_history.proofs.steps.EachFlow.{Carries, each_after, length-with_flow, length-filter}
 use Rattle.sched_history.proofs.plans.PlanOffsets.{plan-offsets, grants_to-before}
@@ -36,6 +38,8 @@ module _ (c : Config) (lawful : IsLawful c) where
   aligned-after h new change aligned = elim change [
     | Nothing flows next ↦ rw next aligned
     | Asked sid bytes heard few flows next ↦ rw next aligned
+    | Replaced sid bytes heard few flows next ↦ rw next aligned
+    | Changed sid spec may flows next ↦ rw next aligned
     | Began sid spec may flows next ↦ rw next aligned
     | Ended sid flows next ↦ rw next aligned
     | Described m map flows next most ↦ rw next (add-mod_right (next_after c h) c.frame ∙ aligned)
@@ -57,6 +61,8 @@ module _ (c : Config) (lawful : IsLawful c) where
   most-after h new change within = elim change [
     | Nothing flows next ↦ rw next within
     | Asked sid bytes heard few flows next ↦ rw next within
+    | Replaced sid bytes heard few flows next ↦ rw next within
+    | Changed sid spec may flows next ↦ rw next within
     | Began sid spec may flows next ↦ rw next within
     | Ended sid flows next ↦ rw next within
     | Described m map flows next most ↦ rw next most
@@ -74,6 +80,8 @@ module _ (c : Config) (lawful : IsLawful c) where
   later-after h new change = elim change [
     | Nothing flows next ↦ omega arith
     | Asked sid bytes heard few flows next ↦ omega arith
+    | Replaced sid bytes heard few flows next ↦ omega arith
+    | Changed sid spec may flows next ↦ omega arith
     | Began sid spec may flows next ↦ omega arith
     | Ended sid flows next ↦ omega arith
     | Described m map flows next most ↦ omega arith
@@ -84,24 +92,32 @@ module _ (c : Config) (lawful : IsLawful c) where
   none-live : flows_of c [] ≡ []
   none-live = flows_of-none c [] (λ sid. refl)
 
-  asked-carries : (h : List Entry) (e : Entry) → Carries c h (h ++ e ∷ []) (λ f. f.asked ≤ most_bytes * length h)
+  -- a flow asked for at most the most bytes of a request times so many, and was granted no more
+  abbrev HasAskedFew : ℕ → LiveFlow → Type 0
+  HasAskedFew n f = (f.asked ≤ most_bytes * n) × (granted f ≤ f.asked)
+
+  asked-carries : (h : List Entry) (e : Entry) → Carries c h (h ++ e ∷ []) (HasAskedFew (length h))
       (λ f. f.asked ≤ most_bytes * length (h ++ e ∷ []))
   asked-carries h e =
       let more : length (h ++ e ∷ []) ≡ length h + 1 = length_push h e in
       record {
-        stays = λ f few. omega arith;
-        asks = λ bytes heard f some few. omega arith;
+        stays = λ f few. omega (arith, more, few.0);
+        asks = λ bytes heard f some few. omega (arith, more, some, few.0);
+        replaces = λ bytes heard f some few. omega (arith, more, some, few.0, few.1);
+        changes = λ spec f few. omega (arith, more, few.0);
         begins = λ sid spec. omega arith;
-        grants = λ m map next f few. omega arith;
+        grants = λ m map next f few. omega (arith, more, few.0);
       }
 
   -- each live flow asked for at most the most bytes of a request times the entries
   pub flows_of-asked : (h : List Entry) → IsLegal c h
       → AllByRecursion (λ f. f.asked ≤ most_bytes * length h) (flows_of c h)
   flows_of-asked = legal_induction c (λ h. AllByRecursion (λ f. f.asked ≤ most_bytes * length h) (flows_of c h))
-      (λ h e legal step all. each_after c h (h ++ e ∷ []) (λ f. f.asked ≤ most_bytes * length h)
+      (λ h e legal step all. each_after c h (h ++ e ∷ []) (HasAskedFew (length h))
       (λ f. f.asked ≤ most_bytes * length (h ++ e ∷ []))
-      (asked-carries h e) (change_of c h e lawful step) all) (rw none-live tt)
+      (asked-carries h e) (change_of c h e lawful step)
+      (all-both (λ (f : LiveFlow). f.asked ≤ most_bytes * length h) IsWithinAsked (HasAskedFew (length h))
+      (λ f few within. (few, within)) (flows_of c h) all (within_asked c h legal))) (rw none-live tt)
 
   started-carries : (h : List Entry) (e : Entry) → next_after c h ≤ next_after c (h ++ e ∷ [])
       → Carries c h (h ++ e ∷ []) (HasStartedBefore (next_after c h)) (HasStartedBefore (next_after c (h ++ e ∷ [])))
@@ -114,6 +130,8 @@ module _ (c : Config) (lawful : IsLawful c) where
       record {
         stays = λ f started. older f.grants started;
         asks = λ bytes heard f some started. older f.grants started;
+        replaces = λ bytes heard f some started. older f.grants started;
+        changes = λ spec f started. older f.grants started;
         begins = λ sid spec. tt;
         grants = λ m map next f started. all-append (λ (g : Grant). g.start < next_after c new) f.grants
             (grants_to (next_after c h) f.sid map.0) (older f.grants started)
@@ -143,6 +161,8 @@ module _ (c : Config) (lawful : IsLawful c) where
   few-after h new change within = elim change [
     | Nothing flows next ↦ rw flows within
     | Asked sid bytes heard few flows next ↦ rw (flows, length-map) within
+    | Replaced sid bytes heard few flows next ↦ rw (flows, length-map) within
+    | Changed sid spec may flows next ↦ rw (flows, length-map) within
     | Began sid spec may flows next ↦
         rw flows (omega (arith, length-with_flow (new_flow sid spec) (flows_of c h), may.few))
     | Ended sid flows next ↦

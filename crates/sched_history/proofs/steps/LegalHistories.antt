@@ -17,11 +17,11 @@ use Rattle.sched_calls.specs.declared.reply.Reply.{Reply}
 use Rattle.sched_calls.specs.declared.reply.Reply.TheVariants as replies
 use Rattle.sched_calls.specs.declared.reply.Refusal.{Refusal}
 use Rattle.sched_calls.specs.declared.reply.Entry.{Entry}
-use Rattle.sched_history.specs.Life.{Life, life_of, flow_in_life, asked_in}
+use Rattle.sched_history.specs.Life.{Admission, Life, life_of, given_in, flow_in_life, asked_in}
 use Rattle.sched_history.specs.Time.{skip_by, IsFirstStart}
 use Rattle.sched_history.specs.Refusal.{refusal_of}
-use Rattle.sched_history.specs.History.{PlacesOrRefuses, AnswersAdmit, flow_status, IsNextMap}
-use Rattle.sched_history.specs.History.{map_by, Answers, IsStep, IsLegal}
+use Rattle.sched_history.specs.History.{PlacesOrRefuses, AnswersAdmit, PlacesAnew, AnswersChange, flow_status}
+use Rattle.sched_history.specs.History.{IsNextMap, map_by, Answers, IsStep, IsLegal}
 
 -- what holds of each member with those before it holds so in every front
 pub EachAfter-take : {X : Type 0} (P : List X → X → Type 0) (before xs : List X) (n : ℕ) → EachAfter P before xs
@@ -97,8 +97,24 @@ still_status : (c : Config) (sid : ℕ) (life : Option Life) (reply : Reply)
 still_status c sid None reply answers = absurd answers
 still_status c sid (Some l) reply answers =
     subst IsStill (sym answers)
-    (still_sums (takes_requests l.admission.spec) (asked_in c sid l.since) (granted (flow_in_life c sid l))
+    (still_sums (takes_requests (given_in sid l).spec) (asked_in c sid l.since) (granted (flow_in_life c sid l))
     (outstanding (flow_in_life c sid l)))
+
+still_anew : (c : Config) (h : List Entry) (sid : ℕ) (spec : FlowSpec) (reply : Reply) → PlacesAnew c h sid spec reply
+    → IsStill reply
+still_anew c h sid spec reply (inl placed) = subst IsStill (sym placed.2) (refl, refl)
+still_anew c h sid spec reply (inr refused) = subst IsStill (sym refused.1) (refl, refl)
+
+still_given : (c : Config) (h : List Entry) (sid : ℕ) (spec : FlowSpec) (given : Admission) (reply : Reply)
+    → AnswersChange c h sid given spec reply → IsStill reply
+still_given c h sid spec given reply (inl (same, (p, told, is))) = subst IsStill (sym is) (refl, refl)
+still_given c h sid spec given reply (inr (inl (other, periodic, answers))) = still_anew c h sid spec reply answers
+still_given c h sid spec given reply (inr (inr (aperiodic, is))) = subst IsStill (sym is) (refl, refl)
+
+still_change : (c : Config) (h : List Entry) (sid : ℕ) (spec : FlowSpec) (o : Option Life) (reply : Reply)
+    → MatchOption o ⊥ (λ life. AnswersChange c h sid (given_in sid life) spec reply) → IsStill reply
+still_change c h sid spec None reply answers = absurd answers
+still_change c h sid spec (Some life) reply answers = still_given c h sid spec (given_in sid life) reply answers
 
 -- what an accepted call has built or skipped
 pub data Change (c : Config) (h : List Entry) (call : Call) (reply : Reply) : Type 0 where
@@ -120,6 +136,12 @@ change_by_answer c h (calls.Skip now) reply answers = Skips now answers.0 refl a
 change_by_answer c h (calls.Status sid) reply answers = Stays (still_status c sid (life_of sid h) reply answers)
 change_by_answer c h (calls.Reserve usage slots) reply answers = Stays (subst IsStill (sym answers) (refl, refl))
 change_by_answer c h (calls.Header header) reply answers = Stays (subst IsStill (sym answers) (refl, refl))
+change_by_answer c h (calls.Replace receiver sid amount heard) reply answers =
+    Stays (subst IsStill (sym answers) (refl, refl))
+change_by_answer c h (calls.Change sid spec) reply answers =
+    Stays (still_change c h sid spec (life_of sid h) reply answers)
+change_by_answer c h (calls.Rest sid) reply answers = Stays (subst IsStill (sym answers) (refl, refl))
+change_by_answer c h (calls.Wake sid) reply answers = Stays (subst IsStill (sym answers) (refl, refl))
 
 change_by_match : (c : Config) (h : List Entry) (call : Call) (reply : Reply) (refusal : Option Refusal)
     → MatchOption refusal (Answers c h call reply) (λ r. reply ≡ replies.Refused r) → Change c h call reply

@@ -8,10 +8,11 @@ use Rattle.sched_calls.specs.declared.spec.FlowSpec.{FlowSpec}
 use Rattle.sched_calls.specs.declared.spec.FlowFault.{FlowFault}
 use Rattle.sched_calls.specs.declared.amount.Amount.{Amount}
 use Rattle.sched_calls.specs.Amount.{requested}
-use Rattle.sched_calls.specs.FlowSpec.{is_periodic, grants_of, first_fault}
+use Rattle.sched_calls.specs.FlowSpec.{is_periodic, is_kind_of, grants_of, first_fault}
 use Rattle.sched_calls.specs.declared.opportunity.Usage.{Usage}
 use Rattle.sched_calls.specs.declared.call.TheConstants.{MAX_RESERVES}
 use Rattle.sched_calls.specs.declared.call.Call.TheVariants.{Admit, Remove, Ask, Heard, Build, Skip, Status, Reserve}
+use Rattle.sched_calls.specs.declared.call.Call.TheVariants.{Replace, Change, Rest, Wake}
 use Rattle.sched_calls.specs.declared.reply.Refusal.{Refusal}
 use Rattle.sched_calls.specs.declared.reply.Refusal.TheVariants.{BadSid, BadFlow, NoFlow, NotAsking, BadReceiver}
 use Rattle.sched_calls.specs.declared.reply.Refusal.TheVariants.{BadBytes, Acked, Ahead, Backwards}
@@ -21,7 +22,8 @@ use Rattle.sched_history.specs.Life.{flows_of}
 use Rattle.sched_history.specs.Time.{next_after, progress_of}
 use Rattle.sched_history.specs.Reserves.{reserves_of}
 use Rattle.sched_history.specs.Refusal.{refused_if, most_bytes, most_ahead, last_clock, bad_sid}
-use Rattle.sched_history.specs.Refusal.{is_live, is_silent, periodic_grants, is_to_bad_sid, refusal_of}
+use Rattle.sched_history.specs.Refusal.{is_live, is_silent, periodic_grants, other_grants, is_to_bad_sid, refusal_of}
+use Rattle.sched_history.specs.Refusal.{has_live, is_unsolicited, is_short_of_poll}
 
 -- where no test refuses the first does not, nor do the others
 passed : (b : Bool) (refusal : Refusal) (rest : Option Refusal) → option_or (refused_if b refusal) rest ≡ None
@@ -141,6 +143,99 @@ passed-ask c h receiver sid amount heard e =
       unacked = within heard progress past_progress.0;
     }
 
+-- A request that replaces others passed
+pub record Replaces (c : Config) (h : List Entry) (receiver sid : ℕ) (amount : Amount) (heard : ℕ) : Type 0 where
+  pub known : IsKnown h sid
+  pub asks : is_silent sid h ≡ false
+  pub received : receiver < c.receivers
+  pub most : requested c amount ≤ most_bytes
+  pub unacked : progress_of c receiver h ≤ heard
+
+-- one that no test refuses passed
+pub passed-replace : (c : Config) (h : List Entry) (receiver sid : ℕ) (amount : Amount) (heard : ℕ)
+    → refusal_of c h (Replace receiver sid amount heard) ≡ None → Replaces c h receiver sid amount heard
+passed-replace c h receiver sid amount heard e =
+    let bytes : ℕ = requested c amount in
+    let progress : ℕ = progress_of c receiver h in
+    let ahead : Option Refusal = option_or (refused_if (nat_le (next_after c h) heard) (Ahead (next_after c h))) None in
+    let timed : Option Refusal = option_or (refused_if (nat_lt heard progress) (Acked progress)) ahead in
+    let sized : Option Refusal = option_or (refused_if (nat_lt most_bytes bytes) BadBytes) timed in
+    let received : Option Refusal = option_or (refused_if (nat_le c.receivers receiver) BadReceiver) sized in
+    let asks : Option Refusal = option_or (refused_if (is_silent sid h) NotAsking) received in
+    let live : Option Refusal = option_or (refused_if (not (is_live sid h)) NoFlow) asks in
+    let past_sid = (passed (bad_sid sid) BadSid live e).1 in
+    let past_live = (passed (not (is_live sid h)) NoFlow asks past_sid).1 in
+    let past_silent = passed (is_silent sid h) NotAsking received past_live in
+    let past_receiver = passed (nat_le c.receivers receiver) BadReceiver sized past_silent.1 in
+    let past_bytes = passed (nat_lt most_bytes bytes) BadBytes timed past_receiver.1 in
+    let past_progress = passed (nat_lt heard progress) (Acked progress) ahead past_bytes.1 in
+    record {
+      known = known h sid BadSid NoFlow asks e;
+      asks = past_silent.0;
+      received = above c.receivers receiver past_receiver.0;
+      most = within most_bytes bytes past_bytes.0;
+      unacked = within heard progress past_progress.0;
+    }
+
+-- A change passed, but that there is a place
+pub record ChangesFlow (c : Config) (h : List Entry) (sid : ℕ) (spec : FlowSpec) : Type 0 where
+  pub known : IsKnown h sid
+  pub kind : has_live (is_kind_of spec) sid h ≡ true
+  pub no_fault : first_fault c spec ≡ None
+  pub few_grants : is_periodic spec ≡ true → other_grants c sid h + grants_of spec ≤ c.periodic
+
+-- a change that no test refuses passed
+pub passed-change : (c : Config) (h : List Entry) (sid : ℕ) (spec : FlowSpec)
+    → refusal_of c h (Change sid spec) ≡ None → ChangesFlow c h sid spec
+passed-change c h sid spec e =
+    let good = passed _ _ _ e in
+    let live = passed _ _ _ good.1 in
+    let kind = passed _ _ _ live.1 in
+    let fault = faultless _ _ kind.1 in
+    let periodic = passed _ _ _ fault.1 in
+    record {
+      known = record { good = good.0; live = kept (is_live sid h) live.0 };
+      kind = kept (has_live (is_kind_of spec) sid h) kind.0;
+      no_fault = fault.0;
+      few_grants = λ is. within c.periodic (other_grants c sid h + grants_of spec)
+          (both (is_periodic spec) (nat_lt c.periodic (other_grants c sid h + grants_of spec)) periodic.0 is);
+    }
+
+-- A rest passed
+pub record MayRest (c : Config) (h : List Entry) (sid : ℕ) : Type 0 where
+  pub known : IsKnown h sid
+  pub voice : has_live is_unsolicited sid h ≡ true
+  pub long : has_live (is_short_of_poll c) sid h ≡ false
+
+-- a rest that no test refuses passed
+pub passed-rest : (c : Config) (h : List Entry) (sid : ℕ) → refusal_of c h (Rest sid) ≡ None → MayRest c h sid
+passed-rest c h sid e =
+    let good = passed _ _ _ e in
+    let live = passed _ _ _ good.1 in
+    let voice = passed _ _ _ live.1 in
+    let long = passed _ _ _ voice.1 in
+    record {
+      known = record { good = good.0; live = kept (is_live sid h) live.0 };
+      voice = kept (has_live is_unsolicited sid h) voice.0;
+      long = long.0;
+    }
+
+-- A wake passed
+pub record MayWake (h : List Entry) (sid : ℕ) : Type 0 where
+  pub known : IsKnown h sid
+  pub voice : has_live is_unsolicited sid h ≡ true
+
+-- a wake that no test refuses passed
+pub passed-wake : (c : Config) (h : List Entry) (sid : ℕ) → refusal_of c h (Wake sid) ≡ None → MayWake h sid
+passed-wake c h sid e =
+    let good = passed _ _ _ e in
+    let live = passed _ _ _ good.1 in
+    let voice = passed _ _ _ live.1 in
+    record {
+      known = record { good = good.0; live = kept (is_live sid h) live.0 };
+      voice = kept (has_live is_unsolicited sid h) voice.0;
+    }
+
 -- A progress passed
 pub record Hears (c : Config) (h : List Entry) (receiver upto : ℕ) : Type 0 where
   pub received : receiver < c.receivers
@@ -214,3 +309,21 @@ passed-reserve c h usage slots e =
       within = within (c.frame - c.req_slots) slots lengths.1;
       room = above MAX_RESERVES (length (reserves_of h)) past_room.0;
     }
+
+-- where three tests do not refuse the others do
+three-passed : (a b c rest : Option Refusal) → option_or a (option_or b (option_or c None)) ≡ None
+    → option_or a (option_or b (option_or c rest)) ≡ rest
+three-passed None None None rest is = refl
+three-passed None None (Some r) rest is = absurd cc
+three-passed None (Some r) c rest is = absurd cc
+three-passed (Some r) b c rest is = absurd cc
+
+-- the other tests of an asker that is not refused for its SID
+pub asker-passed : (sid : ℕ) (h : List Entry) (rest : Option Refusal)
+    → option_or (refused_if (bad_sid sid) BadSid)
+    (option_or (refused_if (not (is_live sid h)) NoFlow) (option_or (refused_if (is_silent sid h) NotAsking) None)) ≡ None
+    → option_or (refused_if (bad_sid sid) BadSid)
+    (option_or (refused_if (not (is_live sid h)) NoFlow) (option_or (refused_if (is_silent sid h) NotAsking) rest)) ≡ rest
+asker-passed sid h rest is =
+    three-passed (refused_if (bad_sid sid) BadSid) (refused_if (not (is_live sid h)) NoFlow)
+    (refused_if (is_silent sid h) NotAsking) rest is

@@ -24,7 +24,7 @@ use Rattle.sched_history.specs.Facts.{maps_of, IsHeardAfter}
 use Rattle.sched_history.proofs.time.TimeAfter.{progress_of-same, progress_of-noted}
 use Rattle.sched_history.proofs.steps.LegalHistories.{Builds, Skips, Stays, change_by_step, accepted}
 use Rattle.sched_history.proofs.steps.LegalHistories.{legal_induction, EachAfter-from_legal}
-use Rattle.sched_history.proofs.steps.Passed.{Asks, passed-ask, passed-heard}
+use Rattle.sched_history.proofs.steps.Passed.{Asks, Replaces, passed-ask, passed-replace, passed-heard}
 use Rattle.sched_history.proofs.time.NextFrames.{maps_of-built, maps_of-unbuilt}
 
 -- an entry notes this progress of the receiver
@@ -118,6 +118,15 @@ module _ (c : Config) where
   heard_by h (calls.Ask receiver sid amount heard) replies.Taken legal step =
       let passes : Asks c h receiver sid amount heard = passed-ask c h receiver sid amount heard
       (accepted c h (calls.Ask receiver sid amount heard) replies.Taken (λ r refuses. cc) step).0 in
+      later_acked (ack_after c h) heard (maps_of h) (omega (
+        arith,
+        passes.unacked,
+        least-of
+            (λ r. progress_of c r h) 0 c.receivers receiver (omega arith) (omega (arith, passes.received)),
+      )) (maps_acked h legal)
+  heard_by h (calls.Replace receiver sid amount heard) replies.Taken legal step =
+      let passes : Replaces c h receiver sid amount heard = passed-replace c h receiver sid amount heard
+      (accepted c h (calls.Replace receiver sid amount heard) replies.Taken (λ r refuses. cc) step).0 in
       later_acked (ack_after c h) heard (maps_of h) (omega (
         arith,
         passes.unacked,

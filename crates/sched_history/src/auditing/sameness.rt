@@ -7,9 +7,10 @@ use map_codec::{Element, WireMap};
 use sched_calls::{FrameMap, Placement, Refusal, Reply};
 
 // A reply without lists.
-#[derive(Clone, Copy, PartialEq, Eq)]
+#[derive(Clone, Copy)]
 pub(crate) enum FlatReply {
     Admitted,
+    Changed,
     Removed,
     Taken,
     Noted,
@@ -40,6 +41,8 @@ fn flat_of(reply: &Reply) -> Option<FlatReply>
     match reply {
         Reply::Admitted(None) => Some(FlatReply::Admitted),
         Reply::Admitted(Some(_)) => None,
+        Reply::Changed(None) => Some(FlatReply::Changed),
+        Reply::Changed(Some(_)) => None,
         Reply::Removed => Some(FlatReply::Removed),
         Reply::Taken => Some(FlatReply::Taken),
         Reply::Noted => Some(FlatReply::Noted),
@@ -60,7 +63,19 @@ fn is_same_reply(reply: FlatReply, other: FlatReply) -> bool
     ensures same { result ≡ true → reply ≡ other }
     ensures apart { result ≡ false → reply ≢ other }
 {
-    reply == other
+    match reply {
+        FlatReply::Admitted => matches!(other, FlatReply::Admitted),
+        FlatReply::Changed => matches!(other, FlatReply::Changed),
+        FlatReply::Removed => matches!(other, FlatReply::Removed),
+        FlatReply::Taken => matches!(other, FlatReply::Taken),
+        FlatReply::Noted => matches!(other, FlatReply::Noted),
+        FlatReply::Reserved => matches!(other, FlatReply::Reserved),
+        FlatReply::Skipped(next) => matches!(other, FlatReply::Skipped(it) if it == next),
+        FlatReply::Flow(asked, granted, outstanding) => {
+            matches!(other, FlatReply::Flow(a, g, o) if a == asked && g == granted && o == outstanding)
+        }
+        FlatReply::Refused(refusal) => matches!(other, FlatReply::Refused(it) if it == refusal),
+    }
 }
 
 // Whether two replies have no lists and are the same, or both have lists.
@@ -95,6 +110,17 @@ pub(crate) fn placement_in(reply: &Reply) -> Option<&Placement>
 {
     match reply {
         Reply::Admitted(Some(placement)) => Some(placement),
+        _ => None,
+    }
+}
+
+// The placement of a change.
+pub(crate) fn changed_placement_in(reply: &Reply) -> Option<&Placement>
+    ensures found { IfSome result (λ p. reply.now ≡ Reply.Changed (Some p.now)) }
+    ensures absent { IfNone result ((p : Placement) → reply.now ≢ Reply.Changed (Some p)) }
+{
+    match reply {
+        Reply::Changed(Some(placement)) => Some(placement),
         _ => None,
     }
 }

@@ -12,7 +12,7 @@ use super::refusing::is_periodic;
 use super::state::State;
 use map_build::PlannedFrame;
 use periodic::PlaceFault;
-use sched_calls::{Call, FlowSpec, FrameMap, Header, Opportunity, Refusal, Reply, Usage};
+use sched_calls::{Amount, Call, FlowSpec, FrameMap, Header, Opportunity, Refusal, Reply, Usage};
 use std::alloc::{AllocError, Global};
 
 // An answer for the history, and where it is asked for the same again to be handed out.
@@ -61,6 +61,9 @@ impl State {
         match call {
             Call::Admit(sid, spec) if is_periodic(spec) => {
                 self.admit_placed_flow(alloc, sid, spec, twice)
+            }
+            Call::Change(sid, spec) if is_periodic(spec) => {
+                self.change_placed_flow(alloc, sid, spec, twice)
             }
             Call::Build { now } => self.build(alloc, now, twice),
             _ => self.answer_told(alloc, call, twice),
@@ -112,7 +115,44 @@ impl State {
             Call::Status(sid) => Ok(self.tell(sid)),
             Call::Reserve { usage, slots } => Ok(self.reserve(usage, slots)),
             Call::Header(header) => Ok(self.note_header(header)),
+            Call::Replace {
+                receiver,
+                sid,
+                amount,
+                heard,
+            } => Ok(self.replace(receiver, sid, amount, heard)),
+            Call::Change(sid, spec) => Ok(self.change_unplaced(sid, spec)),
+            Call::Rest(sid) => Ok(self.rest(sid)),
+            Call::Wake(sid) => Ok(self.wake(sid)),
         }
+    }
+
+    // Leaves so much outstanding of a flow in the place of what was.
+    fn replace(&mut self, _receiver: u8, sid: u16, amount: Amount, heard: u64) -> Reply
+        requires { IsOpen self.old (Call.Replace _receiver sid amount heard) }
+        ensures { FollowsOpen self.old self.new (Call.Replace _receiver sid amount heard) result }
+    {
+        let bytes = amount.bytes(&self.config) as u32;
+        self.book.replace(sid, bytes, heard);
+        Reply::Taken
+    }
+
+    // Lets a flow rest.
+    fn rest(&mut self, sid: u16) -> Reply
+        requires { IsOpen self.old (Call.Rest sid) }
+        ensures { FollowsOpen self.old self.new (Call.Rest sid) result }
+    {
+        self.table.rest(sid);
+        Reply::Noted
+    }
+
+    // Wakes a flow.
+    fn wake(&mut self, sid: u16) -> Reply
+        requires { IsOpen self.old (Call.Wake sid) }
+        ensures { FollowsOpen self.old self.new (Call.Wake sid) result }
+    {
+        self.table.wake(sid);
+        Reply::Noted
     }
 
     // Admits a flow that has no place in the cycle.

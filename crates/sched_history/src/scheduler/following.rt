@@ -32,6 +32,7 @@ impl State {
         match call {
             Call::Admit(sid, spec) if is_periodic(spec) => self.follow_admission(sid, spec, reply),
             Call::Build { now } => self.follow_build(alloc, now, reply),
+            Call::Change(sid, spec) if is_periodic(spec) => self.follow_change(sid, spec, reply),
             _ => self.follow_told(call, reply),
         }
     }
@@ -71,6 +72,9 @@ impl State {
             Call::Status(sid) => self.tell(sid),
             Call::Reserve { .. } => Reply::Reserved,
             Call::Header(_) => Reply::Noted,
+            Call::Replace { .. } => Reply::Taken,
+            Call::Change(_, _) => Reply::Changed(None),
+            Call::Rest(_) | Call::Wake(_) => Reply::Noted,
         }
     }
 

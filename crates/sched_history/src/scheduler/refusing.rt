@@ -1,11 +1,12 @@
 //! Which calls are refused: the tests in their order, of which the first that holds is answered.
 
-ghost use Rattle.std.specs.Prelude.{◌≡◌, ◌≤◌, ◌+◌, ◌∷◌, [], false, not, nat_lt, nat_le, ◌==◌, ◌||◌, ◌&&◌, option_map};
-ghost use Rattle.sched_calls.specs.FlowSpec.{is_periodic, grants_of, takes_requests};
-ghost use Rattle.sched_history.specs.Life.{life_of};
+ghost use Rattle.std.specs.Prelude.{◌≡◌, ◌<◌, ◌≤◌, ◌+◌, Some, true, ◌∷◌, [], false, not, nat_lt, nat_le, ◌==◌, ◌||◌, ◌&&◌, option_map};
+ghost use Rattle.sched_calls.specs.FlowSpec.{is_periodic, is_kind_of, grants_of, takes_requests};
+ghost use Rattle.sched_history.specs.Life.{life_of, given_in};
 ghost use Rattle.sched_history.specs.Time.{next_after, progress_of};
 ghost use Rattle.sched_history.specs.Refusal.{bad_sid, is_live, is_silent, periodic_grants, refused_if};
-ghost use Rattle.sched_history.specs.Refusal.{first_of, refusal_of, is_bad_amount, is_wide};
+ghost use Rattle.sched_history.specs.Refusal.{first_of, refusal_of, is_bad_amount, is_great_amount, is_wide};
+ghost use Rattle.sched_history.specs.Refusal.{is_unsolicited, is_short_of_poll, other_grants};
 
 use super::present::Present;
 use minislots::{Checked, MAX_ASK};
@@ -49,6 +50,43 @@ fn is_bad_amount(config: &Checked, amount: Amount) -> bool
     bytes == 0 || bytes > u64::from(MAX_ASK)
 }
 
+// Whether no request may leave so much in the place of others.
+fn is_great_amount(config: &Checked, amount: Amount) -> bool
+    ensures { result ≡ is_great_amount config.now amount }
+{
+    amount.bytes(config) > u64::from(MAX_ASK)
+}
+
+// Whether a flow with these parameters is unsolicited.
+fn is_unsolicited(spec: FlowSpec) -> bool
+    ensures { result ≡ is_unsolicited spec }
+{
+    matches!(spec, FlowSpec::Unsolicited { .. })
+}
+
+// Whether two flows are of one kind.
+fn is_kind_of(spec: FlowSpec, other: FlowSpec) -> bool
+    ensures { result ≡ is_kind_of spec other }
+{
+    match spec {
+        FlowSpec::Unsolicited { .. } => matches!(other, FlowSpec::Unsolicited { .. }),
+        FlowSpec::Polled { .. } => matches!(other, FlowSpec::Polled { .. }),
+        FlowSpec::BestEffort { .. } => matches!(other, FlowSpec::BestEffort { .. }),
+    }
+}
+
+// Whether the grant of an unsolicited flow has fewer minislots than a poll.
+fn is_short_of_poll(config: &Checked, spec: FlowSpec) -> bool
+    requires { is_unsolicited spec ≡ true }
+    ensures { result ≡ is_short_of_poll config.now spec }
+{
+    let poll = u64::from(config.poll_slots());
+    match spec {
+        FlowSpec::Unsolicited { size, .. } => config.slots_for_unsolicited(size) < poll,
+        _ => unreachable!(),
+    }
+}
+
 // The refusal of a header's exponents.
 fn refuse_backoff(header: Header) -> Option<Refusal>
     ensures { result ≡ refused_if (is_wide header.ranging_start || is_wide header.ranging_end
@@ -83,6 +121,15 @@ impl<'a> Present<'a> {
                 None => self.refuse_request(receiver, amount, heard),
             },
             Call::Heard { receiver, upto } => self.refuse_progress(receiver, upto),
+            Call::Replace {
+                receiver,
+                sid,
+                amount,
+                heard,
+            } => self.refuse_replace(receiver, sid, amount, heard),
+            Call::Change(sid, spec) => self.refuse_change(sid, spec),
+            Call::Rest(sid) => self.refuse_rest(sid),
+            Call::Wake(sid) => self.refuse_voice(sid),
             Call::Build { now } => self.refuse_build(now),
             Call::Skip { now } => self.refuse_skip(now),
             Call::Reserve { usage, slots } => self.refuse_reserve(usage, slots),
@@ -93,7 +140,7 @@ impl<'a> Present<'a> {
     // The parameters of the live flow with this SID.
     fn spec_of(&self, sid: u16) -> Option<FlowSpec>
         requires { bad_sid sid ≡ false }
-        ensures { result ≡ option_map (λ life. life.admission.spec) (life_of sid self.now.history) }
+        ensures { result ≡ option_map (λ life. (given_in sid life).spec) (life_of sid self.now.history) }
     {
         self.state.book.flow(sid)
     }
@@ -136,6 +183,81 @@ impl<'a> Present<'a> {
         }
     }
 
+    // The refusal of other parameters, but that there is no place.
+    fn refuse_change(&self, sid: u16, spec: FlowSpec) -> Option<Refusal>
+        ensures { result ≡ refusal_of self.now.config self.now.history (Call.Change sid spec) }
+    {
+        if is_bad_sid(sid) {
+            return Some(Refusal::BadSid);
+        }
+        let Some(old) = self.spec_of(sid) else {
+            return Some(Refusal::NoFlow);
+        };
+        if !is_kind_of(spec, old) {
+            Some(Refusal::OtherKind)
+        } else if let Err(fault) = spec.check(&self.state.config) {
+            Some(Refusal::BadFlow(fault))
+        } else {
+            self.refuse_grants(sid, old, spec)
+        }
+    }
+
+    // The grants per interval of the live flows but of the one with these parameters.
+    fn other_grants(&self, sid: u16, old: FlowSpec) -> usize
+        requires good { bad_sid sid ≡ false }
+        requires present { option_map (λ life. (given_in sid life).spec)
+            (life_of sid self.now.history) ≡ Some old }
+        ensures value { result ≡ other_grants self.now.config sid self.now.history }
+        ensures most { result ≤ 2560 }
+    {
+        self.periodic_grants() - usize::from(old.grants())
+    }
+
+    // The refusal of other parameters in the place of the present ones where the grants per interval would be too many.
+    fn refuse_grants(&self, sid: u16, old: FlowSpec, spec: FlowSpec) -> Option<Refusal>
+        requires good { bad_sid sid ≡ false }
+        requires present { option_map (λ life. (given_in sid life).spec)
+            (life_of sid self.now.history) ≡ Some old }
+        ensures { result ≡ refused_if (is_periodic spec && nat_lt self.now.config.periodic
+            (other_grants self.now.config sid self.now.history + grants_of spec)) Refusal.PeriodicFull }
+    {
+        let grants = self.other_grants(sid, old) + usize::from(spec.grants());
+        if is_periodic(spec) && grants > self.state.config.periodic() as usize {
+            Some(Refusal::PeriodicFull)
+        } else {
+            None
+        }
+    }
+
+    // The refusal of a rest.
+    fn refuse_rest(&self, sid: u16) -> Option<Refusal>
+        ensures { result ≡ refusal_of self.now.config self.now.history (Call.Rest sid) }
+    {
+        if is_bad_sid(sid) {
+            return Some(Refusal::BadSid);
+        }
+        match self.spec_of(sid) {
+            None => Some(Refusal::NoFlow),
+            Some(spec) if !is_unsolicited(spec) => Some(Refusal::NotUnsolicited),
+            Some(spec) if is_short_of_poll(&self.state.config, spec) => Some(Refusal::TooShort),
+            Some(_) => None,
+        }
+    }
+
+    // The refusal of a call for an unsolicited flow.
+    fn refuse_voice(&self, sid: u16) -> Option<Refusal>
+        ensures { result ≡ refusal_of self.now.config self.now.history (Call.Wake sid) }
+    {
+        if is_bad_sid(sid) {
+            return Some(Refusal::BadSid);
+        }
+        match self.spec_of(sid) {
+            None => Some(Refusal::NoFlow),
+            Some(spec) if !is_unsolicited(spec) => Some(Refusal::NotUnsolicited),
+            Some(_) => None,
+        }
+    }
+
     // The refusal of a removal or of a question for a flow's bytes.
     fn refuse_unknown(&self, sid: u16) -> Option<Refusal>
         ensures { result ≡ first_of (
@@ -168,6 +290,55 @@ impl<'a> Present<'a> {
         }
     }
 
+    // The refusal of a request that replaces others.
+    fn refuse_replace(&self, receiver: u8, sid: u16, amount: Amount, heard: u64) -> Option<Refusal>
+        ensures { result ≡ refusal_of self.now.config self.now.history
+            (Call.Replace receiver sid amount heard) }
+    {
+        match self.refuse_asker(sid) {
+            Some(refusal) => Some(refusal),
+            None => self.refuse_replacement(receiver, amount, heard),
+        }
+    }
+
+    // The refusal of a request that replaces others, for its receiver, its bytes or its time.
+    fn refuse_replacement(&self, receiver: u8, amount: Amount, heard: u64) -> Option<Refusal>
+        ensures { result ≡ first_of (
+            refused_if (nat_le self.now.config.receivers receiver) Refusal.BadReceiver ∷
+            refused_if (is_great_amount self.now.config amount) Refusal.BadBytes ∷
+            refused_if (nat_lt heard (progress_of self.now.config receiver self.now.history))
+            (Refusal.Acked (progress_of self.now.config receiver self.now.history)) ∷
+            refused_if (nat_le (next_after self.now.config self.now.history) heard)
+            (Refusal.Ahead (next_after self.now.config self.now.history)) ∷ []) }
+    {
+        if receiver >= self.state.config.receivers() {
+            Some(Refusal::BadReceiver)
+        } else if is_great_amount(&self.state.config, amount) {
+            Some(Refusal::BadBytes)
+        } else {
+            self.refuse_time(receiver, heard)
+        }
+    }
+
+    // The refusal of a request for the minislot at which it was heard.
+    fn refuse_time(&self, receiver: u8, heard: u64) -> Option<Refusal>
+        requires { receiver < self.now.config.receivers }
+        ensures { result ≡ first_of (
+            refused_if (nat_lt heard (progress_of self.now.config receiver self.now.history))
+            (Refusal.Acked (progress_of self.now.config receiver self.now.history)) ∷
+            refused_if (nat_le (next_after self.now.config self.now.history) heard)
+            (Refusal.Ahead (next_after self.now.config self.now.history)) ∷ []) }
+    {
+        let progress = self.state.progress[usize::from(receiver)];
+        if heard < progress {
+            Some(Refusal::Acked(progress))
+        } else if heard >= self.state.next {
+            Some(Refusal::Ahead(self.state.next))
+        } else {
+            None
+        }
+    }
+
     // The refusal of a request for its receiver, its bytes or its time.
     fn refuse_request(&self, receiver: u8, amount: Amount, heard: u64) -> Option<Refusal>
         ensures { result ≡ first_of (
@@ -179,17 +350,11 @@ impl<'a> Present<'a> {
             (Refusal.Ahead (next_after self.now.config self.now.history)) ∷ []) }
     {
         if receiver >= self.state.config.receivers() {
-            return Some(Refusal::BadReceiver);
-        }
-        let progress = self.state.progress[usize::from(receiver)];
-        if is_bad_amount(&self.state.config, amount) {
+            Some(Refusal::BadReceiver)
+        } else if is_bad_amount(&self.state.config, amount) {
             Some(Refusal::BadBytes)
-        } else if heard < progress {
-            Some(Refusal::Acked(progress))
-        } else if heard >= self.state.next {
-            Some(Refusal::Ahead(self.state.next))
         } else {
-            None
+            self.refuse_time(receiver, heard)
         }
     }
 

@@ -9,7 +9,7 @@ ghost use Rattle.flow_book.specs.Flows.{flow_of};
 ghost use Rattle.flow_book.specs.Choice.{HasStartedBy};
 ghost use Rattle.flow_book.specs.Book.{IsLive, with_flow, new_flow, without};
 ghost use Rattle.periodic.specs.Placement.{IsPlacement, NoPlacement};
-ghost use Rattle.periodic.specs.Table.{placed_grants, IsPlaced, with_placed, without as without_placed};
+ghost use Rattle.periodic.specs.Table.{placed_grants, IsPlaced, placed_at, with_placed, without as without_placed};
 ghost use Rattle.sched_calls.specs.declared.frame_map.FrameMap.{FrameMap};
 ghost use Rattle.map_build.specs.Opportunities.{MayWait, HaveStationSids};
 ghost use Rattle.map_build.specs.FrameMap.{IsLawfulMap, IsLawfulFrame};
@@ -162,8 +162,8 @@ impl State {
         ensures lawful { IfOk result (λ p.
             IsPlacement self.old.table.config self.old.table.placed spec self.old.next p.0) }
         ensures copied { IfOk result (λ p. twice ≡ true → p.1 ≡ Some (Reply.Admitted (Some p.0))) }
-        ensures placed { IfOk result (λ p. self.new.table.placed ≡ with_placed
-            (record { sid = sid; spec = spec; placement = p.0 }) self.old.table.placed) }
+        ensures placed { IfOk result (λ p. self.new.table.placed
+            ≡ with_placed (placed_at sid spec p.0) self.old.table.placed) }
         ensures flows { OnOk result (self.new.book.flows
             ≡ with_flow (new_flow sid spec) self.old.book.flows) }
         ensures book_config { self.new.book.config ≡ self.old.book.config }

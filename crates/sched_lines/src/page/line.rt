@@ -2,8 +2,8 @@
 
 ghost use Rattle.std.specs.Prelude.{◌≡◌, ◌+◌, ◌<◌, ◌≤◌, ◌++◌, Some, Ok, length};
 ghost use Rattle.std.specs.Bool.{OnTrue, OnFalse};
-ghost use Rattle.sched_calls.specs.declared.reply.Reply.TheVariants.{Admitted, Flow, Refused};
-ghost use Rattle.sched_lines.specs.Line.{reply_text, line_of};
+ghost use Rattle.sched_calls.specs.declared.reply.Reply.TheVariants.{Flow, Refused};
+ghost use Rattle.sched_lines.specs.Line.{place_text, reply_text, line_of};
 ghost use Rattle.sched_lines.specs.declared.page.TheConstants.{ROOM};
 
 use super::Page;
@@ -42,11 +42,12 @@ impl Page {
         }
     }
 
-    // Puts the text of an admission with its placement behind the bytes, where there is room for its starts.
-    fn push_placement(&mut self, placement: &Placement) -> bool
-        requires { length self.old < ROOM }
+    // Puts a word and the place of a flow behind the bytes, where there is room for its starts.
+    fn push_placed(&mut self, word: &[u8], placement: &Placement) -> bool
+        requires room { length self.old < ROOM }
+        requires short { length word.now ≤ 8 }
         ensures put { OnTrue result (self.new
-            ≡ self.old ++ reply_text (Admitted (Some placement.now))) }
+            ≡ self.old ++ (word.now ++ place_text placement.now)) }
         ensures same { OnFalse result (self.new ≡ self.old) }
         ensures room { length self.new < ROOM }
     {
@@ -54,7 +55,7 @@ impl Page {
         if starts.len() > FEW_STARTS || !self.has_room(30 + 21 * starts.len()) {
             return false;
         }
-        self.push(b"admitted");
+        self.push(word);
         self.push_number(placement.reference);
         self.push_numbers(starts);
         true
@@ -70,7 +71,9 @@ impl Page {
     {
         match reply {
             Reply::Admitted(None) => self.push(b"admitted"),
-            Reply::Admitted(Some(placement)) => return self.push_placement(placement),
+            Reply::Admitted(Some(placement)) => return self.push_placed(b"admitted", placement),
+            Reply::Changed(None) => self.push(b"changed"),
+            Reply::Changed(Some(placement)) => return self.push_placed(b"changed", placement),
             Reply::Removed => self.push(b"removed"),
             Reply::Taken => self.push(b"taken"),
             Reply::Noted => self.push(b"noted"),

@@ -165,26 +165,26 @@ fn what_an_auditor_took_goes_on_as_the_scheduler_does(rt: HostRuntime) {
     let mut auditor = auditor_at_last(&rt);
     play(&rt, &mut scheduler, &mut auditor);
     let wrong = Entry {
-        stamp: Stamp { seat: 0, ticket: 7 },
+        stamp: Stamp { seat: 0, ticket: 8 },
         call: Call::Status(17),
         reply: Reply::Removed,
     };
-    assert!(rt; matches!(auditor.judge(&wrong), Err(JudgeFault::Illegal)) && auditor.taken() == 7);
+    assert!(rt; matches!(auditor.judge(&wrong), Err(JudgeFault::Illegal)) && auditor.taken() == 8);
     let mut resumed = resumed_at_last(&rt, auditor);
     assert!(rt;
-        resumed.history().is_empty() && resumed.recorded() == 7 && resumed.handed_over() == 7
+        resumed.history().is_empty() && resumed.recorded() == 8 && resumed.handed_over() == 8
     );
     for (place, call) in [Call::Status(17), Call::Build { now: 880 }]
         .iter()
         .enumerate()
     {
-        let ticket = 7 + place as u64;
+        let ticket = 8 + place as u64;
         let one = reply_at_last(&rt, &mut scheduler, ticket, *call);
         let other = reply_at_last(&rt, &mut resumed, ticket, *call);
         assert!(rt; is_same(&one, &other), "call {ticket}");
     }
     resumed.forget();
     assert!(rt;
-        resumed.history().is_empty() && resumed.recorded() == 9 && scheduler.history().len() == 2
+        resumed.history().is_empty() && resumed.recorded() == 10 && scheduler.history().len() == 2
     );
 }

@@ -2,7 +2,7 @@
 use Rattle.std.proofs.Common.{◌*◌, ◌≤◌, ◌∙◌, List, ap, length, take, arith}
 use Rattle.std.proofs.lemmas.List.{length-take}
 use Rattle.periodic.specs.declared.placement.Spot.{Spot}
-use Rattle.periodic.specs.Placement.{spots_in}
+use Rattle.periodic.specs.Placement.{due_in}
 use Rattle.map_build.specs.Plan.{demand_at}
 use Rattle.map_build.proofs.FirstMet.{meets-first-ok}
 use Rattle.map_build.proofs.SameSpots.{frame-told, only-told, written-in_frame, written-sids}
@@ -36,7 +36,7 @@ pub returns-clause-first : goal.returns-clause-first
 returns-clause-first c =
     let config = c.args.book.now.config in
     meets-first-ok config
-    (demand_at c.args.book.now.flows (spots_in config c.args.frame c.args.table.now.placed) c.args.waiting.now
+    (demand_at c.args.book.now.flows (due_in config c.args.frame c.args.table.now.placed) c.args.waiting.now
     (c.args.frame * config.frame)) c.args.header c.args.progress c.plan_around.result c.requires.waiting
     (returns-clause-lawful c)
 

@@ -6,8 +6,8 @@ use Rattle.std.proofs.lemmas.List.Folds.{length-flat_map-take}
 use Rattle.periodic.specs.declared.group.Group.{Group}
 use Rattle.periodic.specs.Fields.{placed_of}
 use Rattle.periodic.proofs.Fields.{drop-later}
-use Rattle.periodic.proofs.Frames.{spots_in-place}
-use Rattle.periodic.proofs.Grouped.{spots_here, group-at, spots-grouped}
+use Rattle.periodic.proofs.Frames.{due_in-place}
+use Rattle.periodic.proofs.Grouped.{due_here, group-at, due-grouped}
 use Rattle.periodic.proofs.group.fill.Goals as goal
 
 -- the place is one of the cycle's
@@ -26,8 +26,8 @@ put-count-requires c =
     let g = c.group-item.result in
     let some : 0 < config.cycle = omega (arith, c.cycle.ensures.positive, c.cycle.ensures.value) in
     let place = within k c.from.result c.cycle.result config.cycle c.from.ensures c.cycle.ensures.value some in
-    let here : spots_here config (k % c.from.result) g ≡ spots_here config k g =
-    ap (λ n. spots_here config n g) place.0 ∙ spots_in-place config k (map placed_of g.flows.items) in
+    let here : due_here config (k % c.from.result) g ≡ due_here config k g =
+    ap (λ n. due_here config n g) place.0 ∙ due_in-place config k (map placed_of g.flows.items) in
     record {
       sound = (
         config,
@@ -36,10 +36,10 @@ put-count-requires c =
         omega (
           arith,
           c.requires.few,
-          ap length (spots-grouped config k groups),
+          ap length (due-grouped config k groups),
           ap length c.loop-group.invariant.spots,
-          length-flat_map-take (spots_here config k) groups i g c.loop-group-test.true,
-          ap (λ h. length (spots_here config k h)) c.group-item.is,
+          length-flat_map-take (due_here config k) groups i g c.loop-group-test.true,
+          ap (λ h. length (due_here config k h)) c.group-item.is,
           ap length here,
           length-take-le c.loop-group.count c.loop-group.spots
               (omega (arith, c.loop-group.invariant.most, c.loop-group.invariant.long)),
@@ -56,18 +56,18 @@ loop-group-preserved c =
     let g = c.group-item.result in
     let some : 0 < config.cycle = omega (arith, c.cycle.ensures.positive, c.cycle.ensures.value) in
     let place = within k c.from.result c.cycle.result config.cycle c.from.ensures c.cycle.ensures.value some in
-    let here : spots_here config (k % c.from.result) g ≡ spots_here config k g =
-    ap (λ n. spots_here config n g) place.0 ∙ spots_in-place config k (map placed_of g.flows.items) in
+    let here : due_here config (k % c.from.result) g ≡ due_here config k g =
+    ap (λ n. due_here config n g) place.0 ∙ due_in-place config k (map placed_of g.flows.items) in
     let more : take (i + 1) groups ≡ take i groups ++ g ∷ [] =
     take_more groups i g c.loop-group-test.true ∙ ap (λ (h : Group). take i groups ++ h ∷ []) (sym c.group-item.is) in
     record {
       long = c.put-count.array_long;
       spots = c.put-count.ensures.spots config
           (group-at config groups i g c.loop-group-test.true c.group-item.is c.requires.sound) place.1
-          ∙ ap (λ ss. ss ++ spots_here config (k % c.from.result) g) c.loop-group.invariant.spots
-          ∙ ap (λ ss. flat_map (spots_here config k) (take i groups) ++ ss) here
-          ∙ flat_map_more (spots_here config k) [] (take i groups) g
-          ∙ ap (flat_map (spots_here config k)) (sym more);
+          ∙ ap (λ ss. ss ++ due_here config (k % c.from.result) g) c.loop-group.invariant.spots
+          ∙ ap (λ ss. flat_map (due_here config k) (take i groups) ++ ss) here
+          ∙ flat_map_more (due_here config k) [] (take i groups) g
+          ∙ ap (flat_map (due_here config k)) (sym more);
       rest = c.put-count.ensures.rest
           ∙ drop-later c.loop-group.spots c.args.spots.now c.loop-group.count c.put-count.result
           c.put-count.ensures.more c.loop-group.invariant.rest;
@@ -80,5 +80,5 @@ returns-clause-spots c =
     let groups = c.args.groups.now in
     let all : take c.loop-group.group-index groups ≡ groups =
     take_all c.loop-group.group-index groups (omega (arith, c.loop-group-test.false)) in
-    c.loop-group.invariant.spots ∙ ap (flat_map (spots_here config c.args.k)) all
-    ∙ sym (spots-grouped config c.args.k groups)
+    c.loop-group.invariant.spots ∙ ap (flat_map (due_here config c.args.k)) all
+    ∙ sym (due-grouped config c.args.k groups)

@@ -6,6 +6,7 @@ use Rattle.report_picture.proofs.rows.put_rows.Goals as goal
 
 pub loop-i-preserved : goal.loop-i-preserved
 loop-i-preserved g c = (
-  text_more _ _ _ (row_text c.args.scale c.args.ranks.now) c.loop-i.i c.loop-i.invariant.0 c.in_ok-put_row.ensures.0,
+  text_more _ _ _ (row_text c.args.scale c.args.replaced c.args.ranks.now) c.loop-i.i c.loop-i.invariant.0
+      c.in_ok-put_row.ensures.0,
   c.in_ok-put_row.ensures.1 ∙ c.loop-i.invariant.1,
 )

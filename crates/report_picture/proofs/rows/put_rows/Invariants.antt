@@ -10,5 +10,5 @@ abbrev pub invariant-loop-i : goal.invariant-loop-i
 invariant-loop-i g l =
     Appends (append_known (g.W.Sink.contents l.initial.writer) l.initial.lines)
     (append_known (g.W.Sink.contents l.writer) l.lines)
-    (flat_map (row_text l.scale l.ranks) (range_with_len 0 l.i))
+    (flat_map (row_text l.scale l.replaced l.ranks) (range_with_len 0 l.i))
     × (g.W.Sink.has_failed l.writer ≡ g.W.Sink.has_failed l.initial.writer)

@@ -9,5 +9,5 @@ pub returns-clause-ok : goal.returns-clause-ok
 returns-clause-ok c =
     let at = c.loop-life in
     where_ok c.end_array.result (λ ended.
-    tokens-all life_data c.args.lives.now at.life-index c.args.out.now.tokens [] at.out.tokens _
+    tokens-all (life_data c.args.replaced) c.args.lives.now at.life-index c.args.out.now.tokens [] at.out.tokens _
     c.loop-life-test.false at.invariant.0 ended) c.end_array.ensures.ok

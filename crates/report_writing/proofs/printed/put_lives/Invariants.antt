@@ -9,5 +9,5 @@ use Rattle.report_writing.proofs.printed.put_lives.Given as goal
 abbrev pub invariant-loop-life : goal.invariant-loop-life
 invariant-loop-life l =
     (l.out.tokens ≡ (l.fn.out.tokens ++ Token.begin_array ∷ [])
-    ++ flat_map (λ n. tokens_of (life_data n)) (take l.life-index l.lives))
+    ++ flat_map (λ n. tokens_of (life_data l.replaced n)) (take l.life-index l.lives))
     × (l.out.before ≡ l.fn.out.before)

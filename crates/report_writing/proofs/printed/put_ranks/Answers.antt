@@ -9,5 +9,5 @@ pub returns-clause-ok : goal.returns-clause-ok
 returns-clause-ok c =
     let at = c.loop-told in
     where_ok c.end_array.result (λ ended.
-    tokens-all rank_data c.args.ranks.now at.told-index c.args.out.now.tokens [] at.out.tokens _
+    tokens-all (rank_data c.args.replaced) c.args.ranks.now at.told-index c.args.out.now.tokens [] at.out.tokens _
     c.loop-told-test.false at.invariant.0 ended) c.end_array.ensures.ok

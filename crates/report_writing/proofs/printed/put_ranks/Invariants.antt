@@ -9,5 +9,5 @@ use Rattle.report_writing.proofs.printed.put_ranks.Given as goal
 abbrev pub invariant-loop-told : goal.invariant-loop-told
 invariant-loop-told l =
     (l.out.tokens ≡ (l.fn.out.tokens ++ Token.begin_array ∷ [])
-    ++ flat_map (λ n. tokens_of (rank_data n)) (take l.told-index l.ranks))
+    ++ flat_map (λ n. tokens_of (rank_data l.replaced n)) (take l.told-index l.ranks))
     × (l.out.before ≡ l.fn.out.before)

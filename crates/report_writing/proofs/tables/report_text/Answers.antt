@@ -3,6 +3,7 @@ use Rattle.std.proofs.Common.{◌≡◌, ◌++◌, ℕ, Ok, ap, ◌∙◌, refl}
 use Rattle.minislots.specs.declared.config.Config.{Config}
 use Rattle.report_writing.specs.Tables.{head_text, uses_text, refused_text, ranks_text}
 use Rattle.report_writing.specs.Flows.{flows_text}
+use Rattle.report_writing.specs.Report.{tells_replaced}
 use Rattle.report_writing.specs.Text.{tables_text}
 use Rattle.report_writing.proofs.Appended.{then_ok}
 use Rattle.report_writing.proofs.tables.report_text.Goals as goal
@@ -21,8 +22,8 @@ returns c =
     let head = head_text ticks t in
     let uses = uses_text t.slots t.calls in
     let refused = refused_text c.refused.result.now in
-    let ranks = ranks_text ticks c.deref.result.now in
-    let flows = flows_text ticks c.args.all c.deref-2.result.now in
+    let ranks = ranks_text ticks (tells_replaced t) c.deref.result.now in
+    let flows = flows_text ticks (tells_replaced t) c.args.all c.deref-2.result.now in
     let whole : end ≡ start ++ (head ++ (uses ++ (refused ++ (ranks ++ flows)))) =
     then_ok {E = ℕ} (Ok tt) start first end head (uses ++ (refused ++ (ranks ++ flows))) c.in_ok-push_head.ensures
     (then_ok {E = ℕ} (Ok tt) first second end uses (refused ++ (ranks ++ flows)) c.in_ok-push_uses.ensures

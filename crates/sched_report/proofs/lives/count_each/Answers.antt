@@ -1,11 +1,11 @@
 -- One allocation more.
 use Rattle.std.proofs.Common.{◌≡◌, ◌+◌, ◌<◌, ℕ, [], length, get_or, None, refl, sym, ap, ◌∙◌, arith}
-use Rattle.std.specs.Prelude.{count_by}
+use Rattle.std.specs.Prelude.{sum_by}
 use Rattle.sched_calls.specs.declared.spec.FlowSpec.{FlowSpec}
 use Rattle.map_drawing.specs.Allocation.{front_length, allocation_at}
-use Rattle.sched_report.specs.Granted.{is_unsolicited_to, unsolicited_at}
+use Rattle.sched_report.specs.Said.{unsolicited_at}
 use Rattle.sched_report.proofs.GrantedLaws.{HaveMore-none, HaveMore-is, HaveMore-then, HaveMore-live}
-use Rattle.sched_report.proofs.GrantedLaws.{unsolicited-first, unsolicited-more}
+use Rattle.sched_report.proofs.GrantedLaws.{unsolicited-more}
 use Rattle.sched_report.proofs.SlotLists.{first_allocations}
 use Rattle.sched_report.proofs.lives.count_each.Goals as goal
 
@@ -21,9 +21,9 @@ allocation_at-requires c =
 
 pub count_at-requires-clause-live : goal.count_at-requires-clause-live
 count_at-requires-clause-live c =
-    HaveMore-live c.requires.front.0 (λ (sid : ℕ). [])
+    HaveMore-live c.requires.front.0 (λ (sid : ℕ). []) c.loop-i.i
     (λ (spec : FlowSpec) (sid : ℕ).
-    count_by (is_unsolicited_to spec sid) (first_allocations c.args.elements.now c.loop-i.i)) c.args.lives.now
+    sum_by (unsolicited_at spec sid) (first_allocations c.args.elements.now c.loop-i.i)) c.args.lives.now
     c.loop-i.lives c.loop-i.auto.lives
     (c.loop-i.invariant.more c.requires.front.0) c.args.places.now c.requires.live
 
@@ -35,8 +35,7 @@ count_at-requires-clause-few c = λ k t below alive.
     let goes_on : x.to ≡ None = sym more.to ∙ alive in
     omega (
       arith,
-      more.counted goes_on,
-      unsolicited-first x.spec x.sid c.args.elements.now c.loop-i.i,
+      more.few,
       c.requires.few k t within goes_on,
       c.loop-i-test.true,
       c.loop-i.invariant.end,
@@ -48,24 +47,24 @@ pub loop-i-preserved : goal.loop-i-preserved
 loop-i-preserved c = record {
   end = c.loop-i.invariant.end;
   more = λ k.
-      HaveMore-then k (λ (sid : ℕ). [])
+      HaveMore-then k (λ (sid : ℕ). []) c.loop-i.i
       (λ (spec : FlowSpec) (sid : ℕ).
-      count_by (is_unsolicited_to spec sid) (first_allocations c.args.elements.now c.loop-i.i)) c.args.lives.now
+      sum_by (unsolicited_at spec sid) (first_allocations c.args.elements.now c.loop-i.i)) c.args.lives.now
       c.loop-i.lives c.loop-i.auto.lives (c.loop-i.invariant.more k)
-      (λ (sid : ℕ). []) (λ (sid : ℕ). [])
+      (λ (sid : ℕ). []) (λ (sid : ℕ). []) 1 (c.loop-i.i + 1)
       (λ (spec : FlowSpec) (sid : ℕ). unsolicited_at spec sid (allocation_at c.args.elements.now c.loop-i.i))
       (λ (spec : FlowSpec) (sid : ℕ).
-      count_by (is_unsolicited_to spec sid) (first_allocations c.args.elements.now (c.loop-i.i + 1)))
+      sum_by (unsolicited_at spec sid) (first_allocations c.args.elements.now (c.loop-i.i + 1)))
       c.count_at.new.lives (rw c.allocation_at.ensures at c.count_at.ensures k) (λ sid. refl)
-      (λ spec sid. unsolicited-more spec sid c.args.elements.now c.loop-i.i);
+      (omega arith) (λ spec sid. unsolicited-more spec sid c.args.elements.now c.loop-i.i);
 }
 
 pub loop-i-init : goal.loop-i-init
 loop-i-init c = record {
   end = c.front_len-i-end.ensures.count;
   more = λ k.
-      HaveMore-none k (λ (sid : ℕ). []) (λ (spec : FlowSpec) (sid : ℕ).
-      count_by (is_unsolicited_to spec sid) (first_allocations c.args.elements.now 0)) c.args.lives.now
+      HaveMore-none k (λ (sid : ℕ). []) 0 (λ (spec : FlowSpec) (sid : ℕ).
+      sum_by (unsolicited_at spec sid) (first_allocations c.args.elements.now 0)) c.args.lives.now
       (λ i t below alive. refl) (λ i t below alive. refl);
 }
 
@@ -73,10 +72,18 @@ pub returns : goal.returns
 returns c = λ k.
     let last : c.loop-i.i ≡ front_length c.args.elements.now =
     omega (arith, c.loop-i-test.false, c.loop-i.auto.i-end, c.loop-i.invariant.end) in
-    HaveMore-is k (λ (sid : ℕ). []) (λ (spec : FlowSpec) (sid : ℕ).
-    count_by (is_unsolicited_to spec sid) (first_allocations c.args.elements.now c.loop-i.i)) (λ (sid : ℕ). [])
+    HaveMore-is k (λ (sid : ℕ). []) c.loop-i.i (λ (spec : FlowSpec) (sid : ℕ).
+    sum_by (unsolicited_at spec sid) (first_allocations c.args.elements.now c.loop-i.i)) (λ (sid : ℕ). [])
+    (length c.args.elements.now)
     (λ (spec : FlowSpec) (sid : ℕ).
-    count_by (is_unsolicited_to spec sid) (first_allocations c.args.elements.now (front_length c.args.elements.now)))
+    sum_by (unsolicited_at spec sid) (first_allocations c.args.elements.now (front_length c.args.elements.now)))
     c.args.lives.now c.loop-i.lives (λ sid. refl)
-    (λ spec sid. ap (λ (n : ℕ). count_by (is_unsolicited_to spec sid) (first_allocations c.args.elements.now n)) last)
+    (omega (
+      arith,
+      c.loop-i.auto.i-end,
+      c.loop-i.invariant.end,
+      c.front_len-i-end.ensures.count,
+      c.front_len-i-end.ensures.within,
+    ))
+    (λ spec sid. ap (λ (n : ℕ). sum_by (unsolicited_at spec sid) (first_allocations c.args.elements.now n)) last)
     (c.loop-i.invariant.more k)

@@ -13,7 +13,7 @@ pub grant_at-requires-clause-live : goal.grant_at-requires-clause-live
 grant_at-requires-clause-live c =
     HaveMore-live c.args.config.now
     (λ (sid : ℕ). first_grants sid c.args.start c.args.elements.now c.args.counts.now c.loop-i.i)
-    (λ (spec : FlowSpec) (sid : ℕ). 0) c.args.lives.now c.loop-i.lives c.loop-i.auto.lives c.loop-i.invariant
+    0 (λ (spec : FlowSpec) (sid : ℕ). 0) c.args.lives.now c.loop-i.lives c.loop-i.auto.lives c.loop-i.invariant
     c.args.places.now c.requires.live
 
 pub grant_at-requires-clause-granted : goal.grant_at-requires-clause-granted
@@ -32,19 +32,19 @@ pub loop-i-init : goal.loop-i-init
 loop-i-init c =
     HaveMore-none c.args.config.now
     (λ (sid : ℕ). first_grants sid c.args.start c.args.elements.now c.args.counts.now 0)
-    (λ (spec : FlowSpec) (sid : ℕ). 0) c.args.lives.now (λ k t below alive. refl) (λ k t below alive. refl)
+    0 (λ (spec : FlowSpec) (sid : ℕ). 0) c.args.lives.now (λ k t below alive. refl) (λ k t below alive. refl)
 
 pub returns : goal.returns
 returns c =
     let z = zip c.args.elements.now c.args.counts.now in
     HaveMore-is c.args.config.now
     (λ (sid : ℕ). first_grants sid c.args.start c.args.elements.now c.args.counts.now c.loop-i.i)
-    (λ (spec : FlowSpec) (sid : ℕ). 0) (λ (sid : ℕ). filter_map (grant_by sid c.args.start) z)
-    (λ (spec : FlowSpec) (sid : ℕ). 0) c.args.lives.now c.loop-i.lives
+    0 (λ (spec : FlowSpec) (sid : ℕ). 0) (λ (sid : ℕ). filter_map (grant_by sid c.args.start) z)
+    0 (λ (spec : FlowSpec) (sid : ℕ). 0) c.args.lives.now c.loop-i.lives
     (λ sid. ap (filter_map (grant_by sid c.args.start)) (take_all c.loop-i.i z (omega (
       arith,
       length-zip c.args.elements.now c.args.counts.now,
       c.min-i-end.ensures,
       c.loop-i-test.false,
     ))))
-    (λ spec sid. refl) c.loop-i.invariant
+    (omega arith) (λ spec sid. refl) c.loop-i.invariant

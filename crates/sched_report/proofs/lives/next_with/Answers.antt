@@ -23,6 +23,7 @@ unmoved : (reply : Reply) → ((m : FrameMap) → reply ≡ replies.Built m → 
 unmoved (replies.Built m) unbuilt unskipped = absurd (unbuilt m refl)
 unmoved (replies.Skipped n) unbuilt unskipped = absurd (unskipped n refl)
 unmoved (replies.Admitted placement) unbuilt unskipped = (refl, refl)
+unmoved (replies.Changed placement) unbuilt unskipped = (refl, refl)
 unmoved replies.Removed unbuilt unskipped = (refl, refl)
 unmoved replies.Taken unbuilt unskipped = (refl, refl)
 unmoved replies.Noted unbuilt unskipped = (refl, refl)

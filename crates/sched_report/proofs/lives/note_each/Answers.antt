@@ -1,5 +1,5 @@
 -- The lives have the grants of the entry's MAP, or what it names.
-use Rattle.std.proofs.Common.{ℕ, get_or, arith}
+use Rattle.std.proofs.Common.{ℕ, length, get_or, arith}
 use Rattle.sched_calls.specs.declared.spec.FlowSpec.{FlowSpec}
 use Rattle.sched_history.specs.Life.{grants_of_map}
 use Rattle.sched_report.specs.Said.{unsolicited_of_map}
@@ -36,6 +36,7 @@ returns-in-Built-clause-lives c = λ ls are may.
 pub returns-in-Built-clause-live : goal.returns-in-Built-clause-live
 returns-in-Built-clause-live c =
     HaveMore-live c.args.config.now (λ (sid : ℕ). grants_of_map sid c.in-Built.map)
-    (λ (spec : FlowSpec) (sid : ℕ). unsolicited_of_map spec sid c.in-Built.map) c.args.lives.now c.note_map.new.lives
+    (length c.in-Built.map.wire.elements) (λ (spec : FlowSpec) (sid : ℕ). unsolicited_of_map spec sid c.in-Built.map)
+    c.args.lives.now c.note_map.new.lives
     c.note_map.auto.lives c.note_map.ensures
     c.args.places.now c.requires.live

@@ -2,15 +2,15 @@
 use Rattle.std.proofs.Common.{◌≡◌, ◌<◌, ℕ, List, [], length, get_or, None, sym, ap, ◌∙◌, subst, append-nil}
 use Rattle.std.proofs.Common.{arith}
 use Rattle.std.specs.List.{zip, filter_map}
-use Rattle.std.specs.Prelude.{count_by}
+use Rattle.std.specs.Prelude.{sum_by}
 use Rattle.map_codec.specs.declared.element.Element.{Element}
 use Rattle.map_drawing.specs.Allocation.{allocations_of}
 use Rattle.sched_calls.specs.declared.spec.FlowSpec.{FlowSpec}
 use Rattle.sched_history.specs.Facts.{HasFront}
 use Rattle.sched_history.specs.Life.{grant_by, grants_of_map}
-use Rattle.sched_report.specs.Granted.{HaveMore, MayGrantEach, is_unsolicited_to}
-use Rattle.sched_report.specs.Said.{unsolicited_of_map}
-use Rattle.sched_report.proofs.GrantedLaws.{HaveMore-then, HaveMore-live, unsolicited-counted}
+use Rattle.sched_report.specs.Granted.{HaveMore, MayGrantEach}
+use Rattle.sched_report.specs.Said.{unsolicited_at, unsolicited_of_map}
+use Rattle.sched_report.proofs.GrantedLaws.{HaveMore-then, HaveMore-live}
 use Rattle.sched_report.proofs.lives.note_map.Goals as goal
 
 pub grant_each-requires-clause-granted : goal.grant_each-requires-clause-granted
@@ -31,7 +31,7 @@ count_each-requires-clause-front c = (
 pub count_each-requires-clause-live : goal.count_each-requires-clause-live
 count_each-requires-clause-live c =
     HaveMore-live c.args.config.now (λ (sid : ℕ). filter_map (grant_by sid c.args.map.now.start)
-    (zip c.as_slice-elements.result.now c.as_slice-counts.result.now)) (λ (spec : FlowSpec) (sid : ℕ). 0)
+    (zip c.as_slice-elements.result.now c.as_slice-counts.result.now)) 0 (λ (spec : FlowSpec) (sid : ℕ). 0)
     c.args.lives.now c.grant_each.new.lives c.grant_each.auto.lives
     c.grant_each.ensures c.args.places.now c.requires.live
 
@@ -42,7 +42,7 @@ count_each-requires-clause-few c = λ k t below alive.
     let goes_on : (get_or c.args.lives.now k t).to ≡ None = sym more.to ∙ alive in
     omega (
       arith,
-      more.counted goes_on,
+      more.few,
       c.requires.few k t within goes_on,
       ap (λ (es : List Element). length es) c.as_slice-elements.ensures,
     )
@@ -52,19 +52,20 @@ returns c =
     let k = c.args.config.now in
     let m = c.args.map.now in
     let old = c.args.lives.now in
-    let granted : HaveMore k (λ sid. grants_of_map sid m) (λ spec sid. 0) old c.grant_each.new.lives =
+    let granted : HaveMore k (λ sid. grants_of_map sid m) 0 (λ spec sid. 0) old c.grant_each.new.lives =
     subst (λ (bs : List ℕ). HaveMore k (λ sid. filter_map (grant_by sid m.start) (zip m.wire.elements bs))
-    (λ spec sid. 0) old c.grant_each.new.lives) c.as_slice-counts.ensures
+    0 (λ spec sid. 0) old c.grant_each.new.lives) c.as_slice-counts.ensures
     (subst (λ (es : List Element). HaveMore k (λ sid. filter_map (grant_by sid m.start)
-    (zip es c.as_slice-counts.result.now)) (λ spec sid. 0) old c.grant_each.new.lives) c.as_slice-elements.ensures
+    (zip es c.as_slice-counts.result.now)) 0 (λ spec sid. 0) old c.grant_each.new.lives) c.as_slice-elements.ensures
     c.grant_each.ensures) in
-    let counted : HaveMore k (λ sid. []) (λ spec sid. count_by (is_unsolicited_to spec sid)
-    (allocations_of m.wire.elements)) c.grant_each.new.lives c.count_each.new.lives =
-    subst (λ (es : List Element). HaveMore k (λ sid. []) (λ spec sid. count_by (is_unsolicited_to spec sid)
+    let counted : HaveMore k (λ sid. []) (length m.wire.elements) (λ spec sid. unsolicited_of_map spec sid m)
+    c.grant_each.new.lives c.count_each.new.lives =
+    subst (λ (es : List Element). HaveMore k (λ sid. []) (length es) (λ spec sid. sum_by (unsolicited_at spec sid)
     (allocations_of es)) c.grant_each.new.lives c.count_each.new.lives) c.as_slice-elements.ensures
     (c.count_each.ensures k) in
-    HaveMore-then k (λ (sid : ℕ). grants_of_map sid m) (λ (spec : FlowSpec) (sid : ℕ). 0) old c.grant_each.new.lives
-    c.grant_each.auto.lives granted (λ (sid : ℕ). []) (λ (sid : ℕ). grants_of_map sid m)
-    (λ (spec : FlowSpec) (sid : ℕ). count_by (is_unsolicited_to spec sid) (allocations_of m.wire.elements))
+    HaveMore-then k (λ (sid : ℕ). grants_of_map sid m) 0 (λ (spec : FlowSpec) (sid : ℕ). 0) old c.grant_each.new.lives
+    c.grant_each.auto.lives granted (λ (sid : ℕ). []) (λ (sid : ℕ). grants_of_map sid m) (length m.wire.elements)
+    (length m.wire.elements)
+    (λ (spec : FlowSpec) (sid : ℕ). unsolicited_of_map spec sid m)
     (λ (spec : FlowSpec) (sid : ℕ). unsolicited_of_map spec sid m) c.count_each.new.lives counted
-    (λ sid. append-nil (grants_of_map sid m)) (λ spec sid. omega (arith, unsolicited-counted spec sid m))
+    (λ sid. append-nil (grants_of_map sid m)) (omega arith) (λ spec sid. omega arith)

@@ -49,7 +49,8 @@ returns-then-place-lives-clause-lives c = λ ls are may.
       | inr apart ↦
           subst (λ (u : LifeTally). IsLifeOf k u (with_entry e life)) (sym (get_or-set_other ts p i new t apart))
           (goes_on-apart c.args.places.now ts c.requires.live i t below k c.in-Some.sid life c.args.next e
-          (sym c.named_by.ensures ∙ c.in-Some.is) (λ at. apart (at ∙ sym c.place_under-place.ensures)) is may_note)
+          (sym c.named_by.ensures ∙ c.in-Some.is) c.requires.unbuilt
+          (λ at. apart (at ∙ sym c.place_under-place.ensures)) is may_note)
     ])
 
 pub returns-else-place-lives-clause-lives : goal.returns-else-place-lives-clause-lives
@@ -58,5 +59,5 @@ returns-else-place-lives-clause-lives c = λ ls are may.
     let ts = c.args.lives.now in
     AreLives-map k ts ts ls c.args.next c.args.entry.now are may refl (λ i t life below is may_note.
     goes_on-apart c.args.places.now ts c.requires.live i t below k c.in-Some.sid life c.args.next c.args.entry.now
-    (sym c.named_by.ensures ∙ c.in-Some.is)
+    (sym c.named_by.ensures ∙ c.in-Some.is) c.requires.unbuilt
     (λ at. omega (arith, at, below, c.place_under-place.ensures, c.if-place-lives.false)) is may_note)

@@ -30,6 +30,6 @@ pub returns-in-Ask-Taken-clause-requests : goal.returns-in-Ask-Taken-clause-requ
 returns-in-Ask-Taken-clause-requests c =
     let e = c.args.entry.now in
     on_ok_weaker c.reserve_each.result (λ room. λ asks.
-    subst (HaveRoomFor e.call e.reply)
+    subst (HaveRoomFor c.args.config.now e.call e.reply)
     (sym (with_items_is c.args.lives.now c.reserve_each.new.lives
     (c.reserve_each.auto.lives ∙ c.deref_mut.ensures.len))) room) c.reserve_each.ensures.ok

@@ -1,6 +1,7 @@
 -- The flow in its place has one grant more, for which there was room.
 use Rattle.std.proofs.Common.{◌∙◌, ap, arith}
 use Rattle.flow_book.specs.Flows.{LiveFlow, with_grant}
+use Rattle.flow_book.proofs.Periods.{since-started}
 use Rattle.flow_book.proofs.Places.{StandsAt, placed}
 use Rattle.flow_book.proofs.Changes.{placed-changed, placed-is_sound}
 use Rattle.flow_book.proofs.Sums.{placed-sums, granted-book}
@@ -36,8 +37,9 @@ pub grant-requires-clause-since : goal.grant-requires-clause-since
 grant-requires-clause-since c =
     let is = found c in
     let started = rw (← c.self.view_is, is.found) at c.requires.started in
+    since-started c.self.inside.config c.at_mut.result.now c.args.start
     (placed-sums c.self.inside.config c.args.sid c.self.inside.flows c.place-place.result c.at_mut.result.now
-    c.self.invariant.book is).bucket.since c.args.start started
+    c.self.invariant.book is) started
 
 pub follow-self-inside-requires-clause-book : goal.follow-self-inside-requires-clause-book
 follow-self-inside-requires-clause-book c =

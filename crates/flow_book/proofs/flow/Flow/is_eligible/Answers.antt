@@ -7,6 +7,7 @@ use Rattle.flow_book.specs.Bucket.{most_of}
 use Rattle.flow_book.specs.Flows.{outstanding}
 use Rattle.flow_book.specs.Entry.{live}
 use Rattle.flow_book.proofs.Amounts.{eligible-is, bucket-within}
+use Rattle.flow_book.proofs.Periods.{since-started}
 use Rattle.flow_book.proofs.flow.Flow.is_eligible.Goals as goal
 use Rattle.flow_book.proofs.flow.Flow.is_eligible.Goals.{then-wanted-eq0-via-then-wanted-eq0}
 use Rattle.flow_book.proofs.flow.Flow.is_eligible.Goals.{then-wanted-eq0-via-else-wanted-eq0+then-from-bytes_in}
@@ -29,7 +30,8 @@ returns-then-wanted-eq0 c =
     )
 
 pub has-requires : goal.has-requires
-has-requires c = c.requires.sums.bucket.since c.args.start c.requires.started
+has-requires c =
+    since-started c.args.config.now c.args.self.now c.args.start c.requires.sums c.requires.started
 
 pub returns : goal.returns
 returns c =

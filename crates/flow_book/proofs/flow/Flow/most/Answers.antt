@@ -1,10 +1,12 @@
 -- The limit is what is outstanding, capped and fits.
 use Rattle.flow_book.specs.Entry.{live}
 use Rattle.flow_book.proofs.Amounts.{most-in-bucket}
+use Rattle.flow_book.proofs.Periods.{since-started}
 use Rattle.flow_book.proofs.flow.Flow.most.Goals as goal
 
 pub most-requires : goal.most-requires
-most-requires c = c.requires.sums.bucket.since c.args.start c.requires.started
+most-requires c =
+    since-started c.args.config.now c.args.self.now c.args.start c.requires.sums c.requires.started
 
 pub returns-clause-most : goal.returns-clause-most
 returns-clause-most c =

@@ -1,12 +1,10 @@
 -- The members of a call, one behind the other.
 use Rattle.std.proofs.Common.{[], ◌∷◌}
-use Rattle.history_writing.specs.Json.{call_data}
 use Rattle.text_stream.proofs.Written.{where_ok}
 use Rattle.history_writing.proofs.JsonTokens.{in_turn}
 use Rattle.history_writing.proofs.history.call.put_bytes_asked.Goals as goal
 
 pub returns-clause-ok : goal.returns-clause-ok
-unfolding call_data
 returns-clause-ok c =
     where_ok c.end_object.result (λ ended. in_turn c.args.out.now.tokens
     (c.begin_object.new.self.tokens ∷ c.put_count.new.out.tokens ∷ c.put_name.new.out.tokens

@@ -1,5 +1,5 @@
 -- A pending grant more is put.
-use Rattle.std.proofs.Common.{◌≡◌, ◌∙◌, sym, ap, subst, get_or, rules, arith}
+use Rattle.std.proofs.Common.{◌∙◌, sym, ap, subst, get_or, rules, arith}
 use Rattle.std.proofs.lemmas.List.{take_all, take_more}
 use Rattle.map_build.specs.Draft.{Puts, PutsPending}
 use Rattle.map_build.specs.UsageCodes.{long_iuc}

@@ -3,7 +3,7 @@ use Rattle.std.proofs.Common.{◌≡◌, ◌<◌, ◌≤◌, ◌++◌, length, t
 use Rattle.std.specs.List.{flat_map}
 use Rattle.minislots.specs.declared.config.Config.{Config}
 use Rattle.periodic.specs.declared.TheConstants.{MAX_SPOTS}
-use Rattle.periodic.specs.Placement.{spots_of}
+use Rattle.periodic.specs.Placement.{due_of}
 use Rattle.periodic.specs.Fields.{placed_of}
 use Rattle.periodic.specs.Groups.{IsSoundGroup}
 use Rattle.periodic.proofs.group.Group.put_all.Given as goal
@@ -13,7 +13,7 @@ invariant-loop-flow l = record {
   long : length l.spots ≡ MAX_SPOTS;
   spots : (c : Config) → IsSoundGroup c l.self → l.place < c.cycle
       → take l.next l.spots ≡ take l.count l.fn.spots
-      ++ flat_map (λ f. spots_of c l.place (placed_of f)) (take l.flow-index l.self.flows.items);
+      ++ flat_map (λ f. due_of c l.place (placed_of f)) (take l.flow-index l.self.flows.items);
   rest : drop l.next l.spots ≡ drop l.next l.fn.spots;
   more : l.count ≤ l.next;
   most : l.next ≤ MAX_SPOTS;

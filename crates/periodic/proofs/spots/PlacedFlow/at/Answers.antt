@@ -13,5 +13,6 @@ returns-clause-times c =
       phase = ap (λ n. reference / n % c.interval-interval.result) frame
           ∙ ap (λ n. reference / c.args.config.now.frame % n) interval;
       slots = c.slots.ensures.value;
+      poll_slots = c.poll_slots.ensures.value;
       grants = c.grants.ensures.value;
     }

@@ -2,7 +2,7 @@
 use Rattle.std.proofs.Common.{◌≡◌, ◌+◌, ◌<◌, ◌++◌, length, map, take, drop}
 use Rattle.minislots.specs.declared.config.Config.{Config}
 use Rattle.periodic.specs.declared.TheConstants.{MAX_SPOTS}
-use Rattle.periodic.specs.Placement.{spot_at, starts_in}
+use Rattle.periodic.specs.Placement.{due_at, due_starts}
 use Rattle.periodic.specs.Fields.{placed_of, IsSoundFlow}
 use Rattle.periodic.specs.Groups.{own_place}
 use Rattle.periodic.proofs.spots.PlacedFlow.put.Given as goal
@@ -13,6 +13,7 @@ invariant-loop-start l = record {
   count : l.next ≡ l.count + l.start-index;
   spots : (c : Config) → IsSoundFlow c l.self → own_place l.self l.number < c.cycle
       → take l.next l.spots ≡ take l.count l.fn.spots
-      ++ map (spot_at c (placed_of l.self)) (take l.start-index (starts_in c l.self.spec l.self.placement (own_place l.self l.number)));
+      ++ map (due_at c (placed_of l.self))
+      (take l.start-index (due_starts c (placed_of l.self) (own_place l.self l.number)));
   rest : drop l.next l.spots ≡ drop l.next l.fn.spots;
 }

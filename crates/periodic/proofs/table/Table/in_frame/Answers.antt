@@ -5,10 +5,11 @@ use Rattle.std.proofs.lemmas.List.{take_at, length-take-le}
 use Rattle.std.proofs.lemmas.List.Sorted.{IsPermutation-trans, length_permutation}
 use Rattle.periodic.specs.declared.placement.Spot.{Spot}
 use Rattle.periodic.specs.declared.TheConstants.{MAX_SPOTS}
-use Rattle.periodic.specs.Placement.{spots_in}
+use Rattle.periodic.specs.Placement.{due_of, due_in}
 use Rattle.periodic.specs.Fields.{placed_of}
 use Rattle.periodic.specs.Groups.{flows_in, placed_in}
-use Rattle.periodic.proofs.InOrder.{spots-permuted}
+use Rattle.periodic.proofs.InOrder.{order-permuted}
+use Rattle.periodic.proofs.Resting.{due-few}
 use Rattle.periodic.proofs.Sorted.{IsFrameOf, frame-sorted}
 use Rattle.periodic.proofs.table.Table.in_frame.Goals as goal
 
@@ -19,11 +20,11 @@ fill-count-requires c =
     let flows = map placed_of (flows_in groups) in
     let k = c.args.k in
     let few = c.self.invariant.sound.few k in
-    let same = length_permutation (spots_in config k (placed_in groups)) (spots_in config k flows)
-    (spots-permuted config k flows) in
+    let same = length_permutation (due_in config k (placed_in groups)) (due_in config k flows)
+    (order-permuted (due_of config k) flows) in
     record {
       sound = rw c.deref.ensures.value c.self.invariant.each;
-      few = rw c.deref.ensures.value (omega (arith, few, same));
+      few = rw c.deref.ensures.value (omega (arith, few, same, due-few config k (placed_in groups)));
     }
 
 -- the front of the array is the frame
@@ -38,13 +39,13 @@ in-order c rest =
     let long : length c.sort.new.spots ≡ c.fill-count.result = c.sort.auto.spots
     ∙ length-take-le c.fill-count.result c.fill-count.new.spots (omega arith) in
     let written = rw c.deref.ensures.value at c.fill-count.ensures.spots in
-    let moved : IsPermutation (spots_in config c.args.k flows) c.sort.new.spots =
+    let moved : IsPermutation (due_in config c.args.k flows) c.sort.new.spots =
     rw (← written) c.sort.ensures.permutation in
     rw (← c.self.view_is, take_at c.sort.new.spots rest c.fill-count.result long)
-    (frame-sorted config c.args.k (placed_in groups) (spots_in config c.args.k (placed_in groups))
+    (frame-sorted config c.args.k (placed_in groups) (due_in config c.args.k (placed_in groups))
     c.sort.new.spots c.fill-count.ensures.lawful c.self.invariant.sound refl
-    (IsPermutation-trans (spots_in config c.args.k (placed_in groups)) (spots_in config c.args.k flows)
-    c.sort.new.spots (spots-permuted config c.args.k flows) moved)
+    (IsPermutation-trans (due_in config c.args.k (placed_in groups)) (due_in config c.args.k flows)
+    c.sort.new.spots (order-permuted (due_of config c.args.k) flows) moved)
     c.sort.ensures.sorted)
 
 pub returns-clause-spots : goal.returns-clause-spots

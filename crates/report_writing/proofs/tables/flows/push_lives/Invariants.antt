@@ -5,4 +5,4 @@ use Rattle.report_writing.proofs.tables.flows.push_lives.Given as goal
 
 abbrev pub invariant-loop-life : goal.invariant-loop-life
 invariant-loop-life l =
-    l.words.items ≡ l.initial.words.items ++ flat_map (life_line l.ticks) (take l.life-index l.lives)
+    l.words.items ≡ l.initial.words.items ++ flat_map (life_line l.ticks l.replaced) (take l.life-index l.lives)

@@ -7,7 +7,7 @@ use Rattle.sched_report.proofs.life.LifeTally.grant.Goals as goal
 
 pub returns-then-is_some : goal.returns-then-is_some
 returns-then-is_some c =
-    HasMore-none c.args.config.now _ 0 c.args.self.now
+    HasMore-none c.args.config.now _ 0 0 c.args.self.now
     (λ alive. absurd (let both : true ≡ false = sym c.if-is_some.true ∙ c.is_some.ensures ∙ ap is_some alive in cc))
     (λ alive. refl)
 
@@ -22,6 +22,7 @@ returns c = record {
   from = refl;
   to = refl;
   ended = λ never. absurd (never (no_end c.args.self.now.to (sym c.is_some.ensures ∙ c.if-is_some.false)));
-  service = λ alive requests before is. c.grant_element.ensures requests before is;
+  service = λ alive claims bytes before is. c.grant_element.ensures claims bytes before is;
   counted = λ alive. omega arith;
+  few = omega arith;
 }

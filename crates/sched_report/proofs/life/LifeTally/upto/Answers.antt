@@ -1,6 +1,6 @@
 -- They are those of its requests that were served.
-use Rattle.sched_history.specs.Life.{grants_since}
-use Rattle.sched_report.specs.Lives.{requests_in}
+use Rattle.sched_history.specs.Life.{asked_in, grants_since}
+use Rattle.sched_report.specs.Said.{claims_of}
 use Rattle.sched_report.proofs.LifeTold.{few_asked}
 use Rattle.sched_report.proofs.life.LifeTally.upto.Goals as goal
 
@@ -10,7 +10,8 @@ upto-requires c =
     let life = c.requires.1 in
     let is = c.requires.2 in (
       k,
-      requests_in life.sid life.since,
+      claims_of k life,
+      asked_in k life.sid life.since,
       grants_since life.sid life.since,
       is.service,
       few_asked k c.args.self.now life is,
@@ -18,4 +19,5 @@ upto-requires c =
 
 pub returns-clause-counts : goal.returns-clause-counts
 returns-clause-counts c = λ k life is.
-    c.upto.ensures.counts k (requests_in life.sid life.since) (grants_since life.sid life.since) is.service
+    c.upto.ensures.counts k (claims_of k life) (asked_in k life.sid life.since) (grants_since life.sid life.since)
+    is.service

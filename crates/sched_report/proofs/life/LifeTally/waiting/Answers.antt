@@ -1,10 +1,9 @@
 -- By whether it ended.
 use Rattle.std.proofs.Common.{◌≡◌, ◌++◌, true, false, sym, ap, ◌∙◌, if◌then◌else◌}
 use Rattle.std.specs.Prelude.{is_some}
-use Rattle.sched_history.specs.Life.{grants_since}
+use Rattle.sched_history.specs.Life.{asked_in, grants_since}
 use Rattle.sched_history.specs.Time.{next_after}
-use Rattle.sched_report.specs.Lives.{requests_in}
-use Rattle.sched_report.specs.Said.{unserved_in}
+use Rattle.sched_report.specs.Said.{claims_of, unserved_in}
 use Rattle.sched_report.proofs.LifeTold.{some_end}
 use Rattle.sched_report.proofs.life.LifeTally.waiting.Goals as goal
 
@@ -20,5 +19,6 @@ returns-in-None c = λ k life is.
     let alive : life.ended ≡ false =
     sym (some_end life.ended (next_after k (life.upto ++ life.since)) c.args.self.now.to is.to)
     ∙ ap is_some c.in-None.is in
-    c.unserved.ensures k (requests_in life.sid life.since) (grants_since life.sid life.since) is.service
+    c.unserved.ensures.unserved k (claims_of k life) (asked_in k life.sid life.since)
+    (grants_since life.sid life.since) is.service
     ∙ sym (ap (λ b. if b then 0 else unserved_in k life) alive)

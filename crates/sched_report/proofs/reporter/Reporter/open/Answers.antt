@@ -17,7 +17,7 @@ invariant_of-result c =
       legal = tt;
       told = rw c.in_ok-new.ensures.ok c.no_flows.ensures;
       totals = c.none.ensures c.args.config;
-      refused = record { places = refl; each = λ place below. get_or-replicate 20 place 0 0 below };
+      refused = record { places = refl; each = λ place below. get_or-replicate 23 place 0 0 below };
       lawful = c.start.ensures.lawful;
       next = omega (arith, c.start.ensures.value);
       lives = record { long = none; each = λ k t life below. absurd (omega (arith, below, none)) };

@@ -17,7 +17,8 @@ use Rattle.sched_report.proofs.service.Service.grant.Goals as goal
 
 pub add-requires : goal.add-requires
 add-requires c =
-    let few = few_served c.args.config.now c.args.self.now c.requires.requests c.requires.grants c.requires.is in
+    let r = c.requires in
+    let few = few_served c.args.config.now c.args.self.now r.claims r.bytes r.grants r.is in
     omega (
       arith,
       few,
@@ -32,7 +33,7 @@ add-requires-in-Some-clause-few c =
     let i = c.loop-mark.invariant in
     let is = c.requires.is in
     let k = c.args.config.now in
-    let before : List ℕ = delays_of k c.requires.requests c.requires.grants in
+    let before : List ℕ = delays_of k c.requires.claims in
     let delays : List ℕ = before ++ map (λ m. c.end_of-end.result - m.heard) i.passed in
     let spread = ap (λ (s : Service). s.spread) c.in-Some.ensures.same in (
       delays,
@@ -40,7 +41,7 @@ add-requires-in-Some-clause-few c =
       omega (
         arith,
         (i.delays before is.delays).served,
-        few_served k c.args.self.now c.requires.requests c.requires.grants is,
+        few_served k c.args.self.now c.requires.claims c.requires.bytes c.requires.grants is,
         c.requires.few,
         i.few,
       ),
@@ -75,6 +76,7 @@ loop-mark-preserved c =
       asks = ap (λ (s : Service). s.asks) same ∙ i.asks;
       asked = ap (λ (s : Service). s.asked) same ∙ i.asked;
       granted = granted ∙ i.granted;
+      replaced = ap (λ (s : Service). s.replaced) same ∙ i.replaced;
       passed = i.passed ++ mark ∷ [];
       passes = i.passes ∙ ap (λ (ms : List Waiting). i.passed ++ ms) c.in-Some.ensures.taken
           ∙ sym (append_assoc i.passed (mark ∷ []) new.waiting.items);
@@ -119,7 +121,8 @@ loop-mark-preserved c =
     }
 
 pub returns : goal.returns
-returns c = λ requests grants is.
+returns c = λ claims bytes grants is.
+    let k = c.args.config.now in
     let i = c.loop-mark.invariant in
     let s = c.args.self.now in
     let new = c.next_served.new.self in
@@ -127,25 +130,25 @@ returns c = λ requests grants is.
     let g = c.args.grant in
     let granted : new.granted ≡ c.loop-mark.self.granted = ap (λ (s : Service). s.granted) same in
     let spread : new.spread ≡ c.loop-mark.self.spread = ap (λ (s : Service). s.spread) same in
-    IsServiceOf-granted c.args.config.now s new requests grants is g i.passed
+    IsServiceOf-granted k s new claims bytes grants is g i.passed
     (ap (λ (s : Service). s.asks) same ∙ i.asks)
     (ap (λ (s : Service). s.asked) same ∙ i.asked)
     (granted ∙ i.granted ∙ ap (λ n. s.granted + n) c.from.ensures)
+    (ap (λ (s : Service). s.replaced) same ∙ i.replaced)
     (omega (arith, c.requires.within, c.requires.is.granted, c.requires.is.asked))
     (i.passes ∙ ap (λ (ms : List Waiting). i.passed ++ ms) (sym c.in_default.ensures.kept))
     (subst (λ n. AllByRecursion (λ m. m.upto ≤ n) i.passed) (sym granted) i.reached)
     (subst (λ n. IsWaitingBehind n new.waiting.items) (sym granted)
     (subst (IsWaitingBehind c.loop-mark.self.granted) (sym c.in_default.ensures.kept) c.in_default.ensures.none))
-    (subst (λ (d : Delays). AreDelays d (delays_of c.args.config.now requests grants
-    ++ map (λ m. delay_until c.args.config.now m.heard g) i.passed)) (sym (ap (λ (s : Service). s.delays) same))
-    (subst (λ e. AreDelays c.loop-mark.self.delays
-    (delays_of c.args.config.now requests grants ++ map (λ m. e - m.heard) i.passed)) c.end_of-end.ensures.value
-    (i.delays (delays_of c.args.config.now requests grants) is.delays)))
-    (subst (λ (s : Spread). AreStepsOf s.steps.items (delays_of c.args.config.now requests grants
-    ++ map (λ m. delay_until c.args.config.now m.heard g) i.passed)) (sym spread)
+    (subst (λ (d : Delays). AreDelays d (delays_of k claims ++ map (λ m. delay_until k m.heard g) i.passed))
+    (sym (ap (λ (s : Service). s.delays) same))
+    (subst (λ e. AreDelays c.loop-mark.self.delays (delays_of k claims ++ map (λ m. e - m.heard) i.passed))
+    c.end_of-end.ensures.value (i.delays (delays_of k claims) is.delays)))
+    (subst (λ (s : Spread). AreStepsOf s.steps.items
+    (delays_of k claims ++ map (λ m. delay_until k m.heard g) i.passed)) (sym spread)
     (subst (λ e. AreStepsOf c.loop-mark.self.spread.steps.items
-    (delays_of c.args.config.now requests grants ++ map (λ m. e - m.heard) i.passed)) c.end_of-end.ensures.value
-    (i.steps (delays_of c.args.config.now requests grants) is.steps)))
+    (delays_of k claims ++ map (λ m. e - m.heard) i.passed)) c.end_of-end.ensures.value
+    (i.steps (delays_of k claims) is.steps)))
     (omega (
       arith,
       i.room,

@@ -13,6 +13,7 @@ invariant-loop-mark l = record {
   asks : l.self.asks ≡ l.initial.self.asks;
   asked : l.self.asked ≡ l.initial.self.asked;
   granted : l.self.granted ≡ l.initial.self.granted;
+  replaced : l.self.replaced ≡ l.initial.self.replaced;
   passed : List Waiting;
   passes : l.initial.self.waiting.items ≡ passed ++ l.self.waiting.items;
   reached : AllByRecursion (λ m. m.upto ≤ l.self.granted) passed;

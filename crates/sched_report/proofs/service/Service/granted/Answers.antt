@@ -2,4 +2,4 @@
 use Rattle.sched_report.proofs.service.Service.granted.Goals as goal
 
 pub returns : goal.returns
-returns c = λ k requests grants is. is.granted
+returns c = λ k claims bytes grants is. is.granted

@@ -9,33 +9,27 @@ use Rattle.sched_report.proofs.service.Service.upto.Goals as goal
 
 pub upto-requires : goal.upto-requires
 upto-requires c =
-    let k = c.requires.0 in
-    let requests = c.requires.1 in
-    let grants = c.requires.2 in
-    let is = c.requires.3 in (
-      delays_of k requests grants,
-      is.steps,
-      omega (arith, is.delays.served, few_served k c.args.self.now requests grants is, c.requires.4),
+    let r = c.requires in (
+      delays_of r.0 r.1,
+      r.4.steps,
+      omega (arith, r.4.delays.served, few_served r.0 c.args.self.now r.1 r.2 r.3 r.4, r.5),
     )
 
 pub returns-clause-counts : goal.returns-clause-counts
-returns-clause-counts c = λ k requests grants is.
-    subst (λ n. CountsUpto c.args.delay n (delays_of k requests grants)) (sym c.upto.ensures)
+returns-clause-counts c = λ k claims bytes grants is.
+    subst (λ n. CountsUpto c.args.delay n (delays_of k claims)) (sym c.upto.ensures)
     (is.steps c.args.delay)
 
 pub returns-clause-few : goal.returns-clause-few
 returns-clause-few c =
-    let k = c.requires.0 in
-    let requests = c.requires.1 in
-    let grants = c.requires.2 in
-    let is = c.requires.3 in
-    let ds : List ℕ = delays_of k requests grants in
+    let r = c.requires in
+    let ds : List ℕ = delays_of r.0 r.1 in
     omega (
       arith,
       c.upto.ensures,
-      (is.steps c.args.delay).within,
+      (r.4.steps c.args.delay).within,
       count_by-le-length (λ (m : ℕ). nat_le m c.args.delay) ds,
-      is.delays.served,
-      few_served k c.args.self.now requests grants is,
-      c.requires.4,
+      r.4.delays.served,
+      few_served r.0 c.args.self.now r.1 r.2 r.3 r.4,
+      r.5,
     )

@@ -24,9 +24,11 @@ returns-in-Built c = λ h counted.
     let t = c.args.self.now in
     let m = c.in-Built.map in
     let calls = c.add.ensures h (ap (λ (t : Totals). t.calls) counted.counted.value) in
+    let replaces = t.replaces + c.replacements_in.result in
     let new = c.add_frame.new.self in
-    AreTotals-built c.args.config.now h c.args.entry.now t c.add.new.self counted.counted calls m new c.in-Built.is
-    (subst (λ frame. new ≡ with_frame frame (record t { calls = c.add.new.self }) m
+    AreTotals-built c.args.config.now h c.args.entry.now t c.add.new.self replaces counted.counted calls
+    (ap (λ n. t.replaces + n) c.replacements_in.ensures) m new c.in-Built.is
+    (subst (λ frame. new ≡ with_frame frame (record t { calls = c.add.new.self; replaces = replaces }) m
     (slots_in (record { before = h; built = m }))) c.frame-frame.ensures.value
     (c.add_frame.ensures.value h counted.told))
     c.add_frame.ensures.bounded
@@ -35,8 +37,9 @@ pub returns-in-Skipped : goal.returns-in-Skipped
 returns-in-Skipped c = λ h counted.
     let t = c.args.self.now in
     let calls = c.add.ensures h (ap (λ (t : Totals). t.calls) counted.counted.value) in
-    AreTotals-unbuilt c.args.config.now h c.args.entry.now t c.add.new.self counted.counted calls (t.skips + 1)
-    (ap map_by c.in-Skipped.is) (rw c.in-Skipped.is refl)
+    AreTotals-unbuilt c.args.config.now h c.args.entry.now t c.add.new.self (t.replaces + c.replacements_in.result)
+    counted.counted calls (ap (λ n. t.replaces + n) c.replacements_in.ensures)
+    (t.skips + 1) (ap map_by c.in-Skipped.is) (rw c.in-Skipped.is refl)
 
 pub returns-in_default : goal.returns-in_default
 returns-in_default c = λ h counted.
@@ -44,5 +47,7 @@ returns-in_default c = λ h counted.
     let e = c.args.entry.now in
     let calls = c.add.ensures h (ap (λ (t : Totals). t.calls) counted.counted.value) in
     let none = neither e.reply (λ m is. c.in_default.not-Built m is) (λ n is. c.in_default.not-Skipped n is) in
-    AreTotals-unbuilt c.args.config.now h e t c.add.new.self counted.counted calls t.skips none.0
+    AreTotals-unbuilt c.args.config.now h e t c.add.new.self (t.replaces + c.replacements_in.result)
+    counted.counted calls
+    (ap (λ n. t.replaces + n) c.replacements_in.ensures) t.skips none.0
     (rw none.1 (omega arith))

@@ -10,6 +10,7 @@ use Rattle.sched_report.proofs.totals.Totals.add_frame.Goals as goal
 pub returns-clause-value : goal.returns-clause-value
 returns-clause-value c = λ h told.
     same_totals _ _ refl c.or-self.ensures (ap (λ n. Some (c.args.map.now.start + n)) c.from.ensures) refl refl
+    refl
     (c.and-self.ensures
     ∙ ap (sum_of c.args.self.now.slots) (c.of_frame-slots.ensures.value h told
     ∙ ap (λ (es : List Element). slots_among (is_unsolicited_after h) (allocations_of es)) c.as_slice.ensures))

@@ -1,4 +1,4 @@
-use Rattle.std.proofs.Common.{ap}
+use Rattle.std.proofs.Common.{false, ap}
 use Rattle.periodic.specs.Placement.{Placed}
 use Rattle.periodic.specs.Table.{TableView}
 use Rattle.sched_history.specs.declared.scheduler.state.State.{State}
@@ -7,13 +7,13 @@ use Rattle.sched_history.proofs.scheduler.state.State.admit_periodic.Goals as go
 
 pub remove-requires : goal.remove-requires
 remove-requires c =
-    let p : Placed = record { sid = c.args.sid; spec = c.args.spec; placement = c.in_ok-placement.placement } in
+    let p : Placed = record { sid = c.args.sid; spec = c.args.spec; placement = c.in_ok-placement.placement; rests = false } in
     rw (c.in-Err.ensures.err, c.in_ok-placement.ensures.placed) (find-with_placed p c.args.self.now.table.placed)
 
 pub returns-in-Err-clause-err : goal.returns-in-Err-clause-err
 returns-in-Err-clause-err c =
     let old : State = c.args.self.now in
-    let p : Placed = record { sid = c.args.sid; spec = c.args.spec; placement = c.in_ok-placement.placement } in
+    let p : Placed = record { sid = c.args.sid; spec = c.args.spec; placement = c.in_ok-placement.placement; rests = false } in
     let put : TableView = c.place.new.self in
     rw (c.remove.ensures, c.in-Err.ensures.err)
     (ap (λ (t : TableView). record old { table = t })

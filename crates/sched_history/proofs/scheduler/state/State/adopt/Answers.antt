@@ -1,5 +1,5 @@
 -- A periodic flow is admitted with the place that is handed in.
-use Rattle.std.proofs.Common.{Some, refl, ap, inl, arith, Result, Ok, Err, OnErr}
+use Rattle.std.proofs.Common.{false, Some, refl, ap, inl, arith, Result, Ok, Err, OnErr}
 use Rattle.periodic.specs.Placement.{Placed, IsPlacement}
 use Rattle.periodic.specs.Table.{TableView}
 use Rattle.sched_history.specs.declared.scheduler.state.State.{State}
@@ -43,14 +43,14 @@ admit-requires c =
 
 pub remove-requires : goal.remove-requires
 remove-requires c =
-    let p : Placed = record { sid = c.args.sid; spec = c.args.spec; placement = c.args.placement.now } in
+    let p : Placed = record { sid = c.args.sid; spec = c.args.spec; placement = c.args.placement.now; rests = false } in
     rw (c.in_ok-adopt.ensures.placed c.if-not-branch.false)
     (find-with_placed p c.args.self.now.table.placed)
 
 pub returns-in-Err-clause-err : goal.returns-in-Err-clause-err
 returns-in-Err-clause-err c =
     let old : State = c.args.self.now in
-    let p : Placed = record { sid = c.args.sid; spec = c.args.spec; placement = c.args.placement.now } in
+    let p : Placed = record { sid = c.args.sid; spec = c.args.spec; placement = c.args.placement.now; rests = false } in
     let opens = c.requires.open.1 in
     let admits = passed-admit old.config c.requires.open.0 c.args.sid c.args.spec opens.unrefused in
     let put : TableView = c.adopt.new.self in

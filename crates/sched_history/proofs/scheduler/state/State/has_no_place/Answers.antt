@@ -1,5 +1,5 @@
 -- There is no place for a periodic flow.
-use Rattle.std.proofs.Common.{refl, ap, ◌∙◌, inr, arith}
+use Rattle.std.proofs.Common.{false, refl, ap, ◌∙◌, inr, arith}
 use Rattle.periodic.specs.Placement.{Placed}
 use Rattle.periodic.specs.Table.{TableView}
 use Rattle.sched_history.specs.declared.scheduler.state.State.{State}
@@ -37,7 +37,7 @@ place-requires-clause-room c =
 
 pub remove-requires : goal.remove-requires
 remove-requires c =
-    let p : Placed = record { sid = c.args.sid; spec = c.args.spec; placement = c.in-Ok.field-0 } in
+    let p : Placed = record { sid = c.args.sid; spec = c.args.spec; placement = c.in-Ok.field-0; rests = false } in
     rw (c.in-Ok.ensures.placed) (find-with_placed p c.args.self.now.table.placed)
 
 pub returns-clause-same : goal.returns-clause-same
@@ -49,7 +49,7 @@ returns-clause-same c =
     let put : TableView = c.place.new.self in
     elim c.match-place.branch [
       | in-Ok w ↦ (
-          let p : Placed = record { sid = c.args.sid; spec = c.args.spec; placement = w.in-Ok.field-0 } in
+          let p : Placed = record { sid = c.args.sid; spec = c.args.spec; placement = w.in-Ok.field-0; rests = false } in
           w.self-is ∙ rw (w.remove.ensures)
           (ap (λ (t : TableView). record old { table = t })
           (table-undone old.table put p fresh w.in-Ok.ensures.config w.in-Ok.ensures.placed)))

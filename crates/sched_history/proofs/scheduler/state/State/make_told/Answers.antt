@@ -14,6 +14,9 @@ negated false is = refl
 pub admit_best_effort-requires-clause-aperiodic : goal.admit_best_effort-requires-clause-aperiodic
 admit_best_effort-requires-clause-aperiodic c = negated _ (rw c.in-Admit.is at c.requires.told)
 
+pub change_unplaced-requires-clause-aperiodic : goal.change_unplaced-requires-clause-aperiodic
+change_unplaced-requires-clause-aperiodic c = negated _ (rw c.in-Change.is at c.requires.told)
+
 pub ask-requires-clause-live : goal.ask-requires-clause-live
 ask-requires-clause-live c =
     let s = c.args.self.now in

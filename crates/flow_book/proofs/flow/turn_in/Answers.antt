@@ -1,0 +1,8 @@
+-- The last grant and the SID stand behind the rank in the number.
+use Rattle.std.proofs.Common.{arith}
+use Rattle.flow_book.proofs.Turns.{turn-in}
+use Rattle.flow_book.proofs.flow.turn_in.Goals as goal
+
+pub returns : goal.returns
+returns c = λ before sid last is.
+    turn-in before last sid c.args.turn c.args.rank _ is (omega (arith, c.from.ensures))

@@ -1,0 +1,365 @@
+-- What the fields of a scheduler say of a flow that is to have other parameters, and the fields with one change more.
+use Rattle.std.proofs.Common.{◌≡◌, ℕ, ◌+◌, ◌%◌, ◌^◌, ◌<◌, ◌≤◌, Bool, true, false, not, ◌==◌, if◌then◌else◌, List, [], ◌∷◌}
+use Rattle.std.proofs.Common.{◌⊎◌, find, Option, None, Some, refl, sym, ap, ◌∙◌, subst, inl, inr, arith}
+use Rattle.std.specs.Prelude.{is_some, sum_by}
+use Rattle.std.specs.Option.{option_map, option_map_or, option_and_then, IfSome, IsSomeAnd, MatchOption}
+use Rattle.std.proofs.lemmas.Bool.{cases_eq}
+use Rattle.std.proofs.lemmas.Bool.Decides.{nat_tests}
+use Rattle.std.proofs.lemmas.List.Sums.{sum_by-cons}
+use Rattle.std.specs.List.{AllByRecursion}
+use Rattle.minislots.specs.declared.config.Config.{Config}
+use Rattle.sched_calls.specs.declared.spec.FlowSpec.{FlowSpec}
+use Rattle.sched_calls.specs.declared.spec.FlowSpec.TheVariants.{Unsolicited, Polled, BestEffort}
+use Rattle.sched_calls.specs.FlowSpec.{is_periodic, is_kind_of, has_place_of, takes_requests, grants_of}
+use Rattle.sched_calls.specs.FlowSpec.{first_fault}
+use Rattle.flow_book.specs.Flows.{LiveFlow, flow_of}
+use Rattle.flow_book.specs.Sids.{AscendBy}
+use Rattle.flow_book.specs.Book.{Ascend, IsLive, without as without_flow}
+use Rattle.sched_calls.specs.declared.placement.Placement.{Placement}
+use Rattle.periodic.specs.Placement.{Placed, IsPlacement, NoPlacement, IsToldFrom}
+use Rattle.periodic.specs.Table.{IsPlaced, placed_grants, without}
+use Rattle.periodic.proofs.Summed.{grants-without}
+use Rattle.sched_history.specs.declared.scheduler.state.State.{State}
+use Rattle.sched_calls.specs.declared.call.Call.TheVariants as calls
+use Rattle.sched_calls.specs.declared.reply.Reply.{Reply}
+use Rattle.sched_calls.specs.declared.reply.Reply.TheVariants as replies
+use Rattle.sched_calls.specs.declared.reply.Refusal.TheVariants.{NoPlace}
+use Rattle.sched_calls.specs.declared.reply.Entry.{Entry}
+use Rattle.sched_history.specs.Life.{Admission, Life, life_of, given_in, rests_in, flow_in_life, placed_in_life, flows_of}
+use Rattle.sched_history.specs.Life.{table_of}
+use Rattle.sched_history.specs.Refusal.{bad_sid, periodic_grants, other_grants}
+use Rattle.sched_history.specs.Time.{next_after}
+use Rattle.sched_history.specs.History.{PlacesAnew, AnswersChange, Answers, IsLegal}
+use Rattle.sched_history.specs.Machine.{TellsPlace, TakesMemory}
+use Rattle.sched_history.specs.State.{IsStateAfter, IsOpenTo}
+use Rattle.sched_history.proofs.lives.Finding.{good_sid, flow_of-flows_of, flows_of-channel, table_of-ascends}
+use Rattle.sched_history.proofs.lives.FlowsAfter.{placed_with}
+use Rattle.sched_history.proofs.placements.Counts.{life_of-pairs, grants-placed_by}
+use Rattle.sched_history.proofs.placements.Given.{known-life}
+use Rattle.sched_history.proofs.state.Present.{flow_of-after, find-after, placement-some, IsLive-after}
+use Rattle.sched_history.proofs.state.Present.{without_placed-none}
+use Rattle.sched_history.proofs.steps.Passed.{IsKnown, ChangesFlow, passed-change}
+
+-- flows of one kind are both periodic, or neither
+pub alike-periodic : (spec other : FlowSpec) → is_kind_of spec other ≡ true → is_periodic other ≡ is_periodic spec
+alike-periodic (Unsolicited size interval jitter grants) (Unsolicited size' interval' jitter' grants') kind = refl
+alike-periodic (Polled interval jitter rate burst) (Polled interval' jitter' rate' burst') kind = refl
+alike-periodic (BestEffort priority rate burst) (BestEffort priority' rate' burst') kind = refl
+alike-periodic spec other kind = absurd cc
+
+-- and both take requests, or neither
+pub alike-takes : (spec other : FlowSpec) → is_kind_of spec other ≡ true → takes_requests spec ≡ takes_requests other
+alike-takes (Unsolicited size interval jitter grants) (Unsolicited size' interval' jitter' grants') kind = refl
+alike-takes (Polled interval jitter rate burst) (Polled interval' jitter' rate' burst') kind = refl
+alike-takes (BestEffort priority rate burst) (BestEffort priority' rate' burst') kind = refl
+alike-takes spec other kind = absurd cc
+
+-- a flow that keeps its place is periodic
+pub place-periodic : (spec other : FlowSpec) → has_place_of spec other ≡ true → is_periodic other ≡ true
+place-periodic (Unsolicited size interval jitter grants) (Unsolicited size' interval' jitter' grants') same = refl
+place-periodic (Polled interval jitter rate burst) (Polled interval' jitter' rate' burst') same = refl
+place-periodic spec other same = absurd cc
+
+above-left : (sid : ℕ) (flows : List LiveFlow) → AllByRecursion (λ g. sid < g.sid) flows → without_flow sid flows ≡ flows
+above-left sid [] all = refl
+above-left sid (f ∷ flows) all =
+    let kept : not (f.sid == sid) ≡ true = grind (arith, nat_tests, all.0) in rw kept (ap (λ gs. f ∷ gs) (above-left sid flows all.1))
+
+found-first : (b : Bool) (g f : LiveFlow) (rest : Option LiveFlow) → (if b then Some g else rest) ≡ Some f → b ≡ true
+    → g ≡ f
+found-first true g f rest is test = cc
+found-first false g f rest is test = absurd cc
+
+found-later : (b : Bool) (g f : LiveFlow) (rest : Option LiveFlow) → (if b then Some g else rest) ≡ Some f → b ≡ false
+    → rest ≡ Some f
+found-later true g f rest is test = absurd cc
+found-later false g f rest is test = is
+
+-- the grants of one flow and of the others are all
+pub grants-others : (sid : ℕ) (f : LiveFlow) (flows : List LiveFlow) → Ascend flows → flow_of sid flows ≡ Some f
+    → sum_by (λ g. grants_of g.spec) (without_flow sid flows) + grants_of f.spec ≡ sum_by (λ g. grants_of g.spec) flows
+grants-others sid f [] up found = absurd cc
+grants-others sid f (g ∷ flows) up found =
+    let own : LiveFlow → ℕ = λ h. grants_of h.spec in
+    elim (cases_eq g.sid sid) [
+      | inl same ↦ (
+          let test : (g.sid == sid) ≡ true = grind (arith, nat_tests) in
+          let left = above-left sid flows (subst (λ n. AllByRecursion (λ h. n < h.sid) flows) same up.0) in
+          let first = found-first (g.sid == sid) g f (flow_of sid flows) found test in
+          rw (test, left) (omega (arith, sum_by-cons own g flows, ap own first)))
+      | inr other ↦ (
+          let test : (g.sid == sid) ≡ false = grind (arith, nat_tests) in
+          let later = found-later (g.sid == sid) g f (flow_of sid flows) found test in
+          rw test (omega (
+            arith,
+            sum_by-cons own g (without_flow sid flows),
+            sum_by-cons own g flows,
+            grants-others sid f flows up.1 later,
+          )))
+    ]
+
+-- a life with these parameters
+some-of : (sid : ℕ) (o : Option Life) (old : FlowSpec) → option_map (λ life. (given_in sid life).spec) o ≡ Some old
+    → (life : Life) × (o ≡ Some life) × ((given_in sid life).spec ≡ old)
+some-of sid None old is = absurd cc
+some-of sid (Some life) old is = (life, refl, cc)
+
+-- the grants of the other flows, and those of the flow with these parameters, are all
+pub other-grants : (c : Config) (h : List Entry) (sid : ℕ) (old : FlowSpec) → bad_sid sid ≡ false
+    → option_map (λ life. (given_in sid life).spec) (life_of sid h) ≡ Some old
+    → other_grants c sid h + grants_of old ≡ periodic_grants c h
+other-grants c h sid old good is =
+    let life = some-of sid (life_of sid h) old is in
+    let found : flow_of sid (flows_of c h) ≡ Some (flow_in_life c sid life.0) =
+    flow_of-flows_of c sid h (good_sid sid good).0 (good_sid sid good).1
+    ∙ ap (option_map (flow_in_life c sid)) life.1 in
+    let all = grants-others sid (flow_in_life c sid life.0) (flows_of c h) (flows_of-channel c h).ascend found in
+    omega (arith, all, ap grants_of life.2)
+
+module _ (s : State) (h : List Entry) (sid : ℕ) (is_after : IsStateAfter s h) (legal : IsLegal s.config h)
+    (known : IsKnown h sid) where
+  -- its life
+  pub known-in : (life : Life) × (life_of sid h ≡ Some life)
+  known-in = known-life sid h known
+
+  -- what it was given
+  abbrev pub given : Admission
+  given = given_in sid known-in.0
+
+  -- its flow
+  pub flow-known : flow_of sid s.book.flows ≡ Some (flow_in_life s.config sid known-in.0)
+  flow-known = flow_of-after s h sid is_after known.good ∙ ap (option_map (flow_in_life s.config sid)) known-in.1
+
+  -- and its placement
+  pub placed-known : find (λ p. p.sid == sid) s.table.placed
+      ≡ option_map (placed_with sid given.spec (rests_in sid known-in.0.since)) given.placement
+  placed-known = find-after s h sid is_after known.good ∙ ap (option_and_then (placed_in_life sid)) known-in.1
+
+  -- it is placed where it is periodic
+  pub is-placed : is_periodic given.spec ≡ true → IsPlaced sid s.table.placed
+  is-placed periodic =
+      rw placed-known (placement-some sid given.spec (rests_in sid known-in.0.since) given.placement
+      (life_of-pairs s.config h sid known-in.0 legal known-in.1 ∙ periodic))
+
+  -- the grants of the other flows and its own are all
+  pub others-known : other_grants s.config sid h + grants_of given.spec ≡ periodic_grants s.config h
+  others-known =
+      other-grants s.config h sid given.spec known.good (ap (option_map (λ life. (given_in sid life).spec)) known-in.1)
+
+  -- so have the other placed flows
+  pub placed-others : (f : Placed) → find (λ p. p.sid == sid) s.table.placed ≡ Some f → f.spec ≡ given.spec
+      → placed_grants (without sid s.table.placed) ≡ other_grants s.config sid h
+  placed-others f found same =
+      let up : AscendBy (λ p. p.sid) s.table.placed = rw is_after.placed (table_of-ascends h) in
+      let rest = grants-without sid f s.table.placed found up in
+      omega (arith, rest, others-known, ap grants_of same, grants-placed_by s h is_after legal)
+
+-- what holds of the parameters of a life holds of those of its flow
+of-life : (test : FlowSpec → Bool) (o : Option Life) (life : Life) (sid : ℕ) (b : Bool) → o ≡ Some life
+    → option_map_or (λ l. test (given_in sid l).spec) o false ≡ b → test (given_in sid life).spec ≡ b
+of-life test o life sid b lives is = rw lives at is
+
+-- a placement that stands
+some-placement : (o : Option Placement) → is_some o ≡ true → (p : Placement) × (o ≡ Some p)
+some-placement None is = absurd cc
+some-placement (Some p) is = (p, refl)
+
+-- or does not
+no-placement : (o : Option Placement) → is_some o ≡ false → o ≡ None
+no-placement None is = refl
+no-placement (Some p) is = absurd cc
+
+-- a placement is answered once
+same_changed : (p q : Placement) → replies.Changed (Some p) ≡ replies.Changed (Some q) → p ≡ q
+same_changed p q same = cc
+
+module _ (c : Config) (h : List Entry) (sid : ℕ) (given : Admission) (spec : FlowSpec) (p : Placement) where
+  -- the placement of a flow that keeps its place
+  pub kept-answer : has_place_of given.spec spec ≡ true → is_periodic spec ≡ true
+      → AnswersChange c h sid given spec (replies.Changed (Some p))
+      → IsSomeAnd given.placement (λ stands. IsToldFrom c spec (next_after c h) stands p)
+  kept-answer same periodic (inl kept) =
+      subst (λ q. IsSomeAnd given.placement (λ stands. IsToldFrom c spec (next_after c h) stands q))
+      (sym (same_changed p kept.1.0 kept.1.2)) kept.1.1
+  kept-answer same periodic (inr (inl anew)) = absurd (let apart : true ≡ false = sym same ∙ anew.0 in cc)
+  kept-answer same periodic (inr (inr none)) = absurd (let apart : true ≡ false = sym periodic ∙ none.0 in cc)
+
+  anew-answer : PlacesAnew c h sid spec (replies.Changed (Some p))
+      → IsPlacement c (without sid (table_of h)) spec (next_after c h) p
+  anew-answer (inl placed) =
+      subst (λ q. IsPlacement c (without sid (table_of h)) spec (next_after c h) q)
+      (sym (same_changed p placed.0 placed.2)) placed.1
+  anew-answer (inr refused) = absurd (let apart = refused.1 in cc)
+
+  -- the placement of one that is placed anew
+  pub placed-answer : has_place_of given.spec spec ≡ false → is_periodic spec ≡ true
+      → AnswersChange c h sid given spec (replies.Changed (Some p))
+      → IsPlacement c (without sid (table_of h)) spec (next_after c h) p
+  placed-answer other periodic (inl kept) = absurd (let apart : true ≡ false = sym kept.0 ∙ other in cc)
+  placed-answer other periodic (inr (inl anew)) = anew-answer anew.2
+  placed-answer other periodic (inr (inr none)) = absurd (let apart : true ≡ false = sym periodic ∙ none.0 in cc)
+
+module _ (c : Config) (h : List Entry) (sid : ℕ) (given : Admission) (spec : FlowSpec) where
+  anew-refused : PlacesAnew c h sid spec (replies.Refused NoPlace)
+      → NoPlacement c (without sid (table_of h)) spec (next_after c h)
+  anew-refused (inl placed) = absurd (let apart = placed.2 in cc)
+  anew-refused (inr refused) = refused.0
+
+  -- where there is no place it is placed anew
+  pub refused-answer : AnswersChange c h sid given spec (replies.Refused NoPlace)
+      → (has_place_of given.spec spec ≡ false) × NoPlacement c (without sid (table_of h)) spec (next_after c h)
+  refused-answer (inl kept) = absurd (let apart = kept.1.2 in cc)
+  refused-answer (inr (inl anew)) = (anew.0, anew-refused anew.2)
+  refused-answer (inr (inr none)) = absurd (let apart = none.1 in cc)
+
+  -- A periodic flow is answered with a placement, or there is no place
+  pub periodic-answer : (reply : Reply) → is_periodic spec ≡ true → AnswersChange c h sid given spec reply
+      → ((p : Placement) × (reply ≡ replies.Changed (Some p))) ⊎ (reply ≡ replies.Refused NoPlace)
+  periodic-answer reply periodic (inl kept) = inl (kept.1.0, kept.1.2)
+  periodic-answer reply periodic (inr (inl (other, is, inl placed))) = inl (placed.0, placed.2)
+  periodic-answer reply periodic (inr (inl (other, is, inr refused))) = inr refused.1
+  periodic-answer reply periodic (inr (inr none)) = absurd (let apart : true ≡ false = sym periodic ∙ none.0 in cc)
+
+-- What is known where a change is open
+module _ (s : State) (h : List Entry) (sid : ℕ) (spec : FlowSpec) (opens : IsOpenTo s (calls.Change sid spec) h) where
+  abbrev pub may : ChangesFlow s.config h sid spec
+  may = passed-change s.config h sid spec opens.unrefused
+
+  -- its life
+  abbrev pub life : (life : Life) × (life_of sid h ≡ Some life)
+  life = known-in s h sid opens.is_after opens.legal may.known
+
+  -- what it was given
+  abbrev pub had : Admission
+  had = given_in sid life.0
+
+  kind : is_kind_of spec had.spec ≡ true
+  kind = of-life (is_kind_of spec) (life_of sid h) life.0 sid true life.1 may.kind
+
+  -- it is periodic as before
+  pub had-periodic : is_periodic had.spec ≡ is_periodic spec
+  had-periodic = alike-periodic spec had.spec kind
+
+  -- its flow
+  pub change-found : flow_of sid s.book.flows ≡ Some (flow_in_life s.config sid life.0)
+  change-found = flow-known s h sid opens.is_after opens.legal may.known
+
+  -- and placement
+  pub change-placed : find (λ p. p.sid == sid) s.table.placed
+      ≡ option_map (placed_with sid had.spec (rests_in sid life.0.since)) had.placement
+  change-placed = placed-known s h sid opens.is_after opens.legal may.known
+
+  -- it is live
+  pub change-live : IsLive sid s.book.flows
+  change-live = IsLive-after s h sid opens.is_after may.known
+
+  -- and asks as before
+  pub change-kind : IfSome (flow_of sid s.book.flows) (λ f. takes_requests spec ≡ takes_requests f.spec)
+  change-kind = rw change-found (alike-takes spec had.spec kind)
+
+  -- it has no fault
+  pub change-fault : first_fault s.table.config spec ≡ None
+  change-fault = rw opens.is_after.table_config may.no_fault
+
+  -- the next frame starts in time
+  pub change-aligned : s.next % s.table.config.frame ≡ 0
+  change-aligned = rw opens.is_after.table_config opens.bounded.aligned
+
+  pub change-next : s.next ≤ 2 ^ 61
+  change-next = omega (arith, opens.bounded.next_most)
+
+  -- whether it keeps its place is told by its flow
+  pub had-place : (b : Bool) → IfSome (flow_of sid s.book.flows) (λ f. has_place_of f.spec spec ≡ b)
+      → has_place_of had.spec spec ≡ b
+  had-place b is = rw change-found at is
+
+  -- an answer of a flow that was given this is the answer
+  pub answers-given : (reply : Reply) → AnswersChange s.config h sid had spec reply
+      → Answers s.config h (calls.Change sid spec) reply
+  answers-given reply answers = subst
+      (λ o. MatchOption o ⊥ (λ l. AnswersChange s.config h sid (given_in sid l) spec reply)) (sym life.1) answers
+
+  -- and the other way round
+  pub given-answers : (reply : Reply) → Answers s.config h (calls.Change sid spec) reply
+      → AnswersChange s.config h sid had spec reply
+  given-answers reply answers = subst
+      (λ o. MatchOption o ⊥ (λ l. AnswersChange s.config h sid (given_in sid l) spec reply)) life.1 answers
+
+  -- memory is taken where a placement is told
+  pub takes-given : TellsPlace s.config h sid had spec → TakesMemory s.config h (calls.Change sid spec)
+  takes-given tells = subst (λ o. MatchOption o ⊥ (λ l. TellsPlace s.config h sid (given_in sid l) spec)) (sym life.1) tells
+
+  -- a flow without a place stands nowhere
+  pub change-nowhere : is_periodic spec ≡ false → without sid s.table.placed ≡ s.table.placed
+  change-nowhere aperiodic =
+      let none = no-placement had.placement
+      (life_of-pairs s.config h sid life.0 opens.legal life.1 ∙ had-periodic ∙ aperiodic) in
+      without_placed-none sid s.table.placed
+      (change-placed ∙ ap (option_map (placed_with sid had.spec (rests_in sid life.0.since))) none)
+
+  module _ (periodic : is_periodic spec ≡ true) where
+    -- its placement stands
+    pub had-placement : (p : Placement) × (had.placement ≡ Some p)
+    had-placement = some-placement had.placement
+        (life_of-pairs s.config h sid life.0 opens.legal life.1 ∙ had-periodic ∙ periodic)
+
+    -- it is placed so
+    pub change-at : find (λ p. p.sid == sid) s.table.placed
+        ≡ Some (placed_with sid had.spec (rests_in sid life.0.since) had-placement.0)
+    change-at = change-placed ∙ ap (option_map (placed_with sid had.spec (rests_in sid life.0.since))) had-placement.1
+
+    pub change-is_placed : IsPlaced sid s.table.placed
+    change-is_placed = rw change-at refl
+
+    -- there is room for its grants beside the others
+    pub change-room : placed_grants (without sid s.table.placed) + grants_of spec ≤ s.table.config.periodic
+    change-room =
+        let others = placed-others s h sid opens.is_after opens.legal may.known
+        (placed_with sid had.spec (rests_in sid life.0.since) had-placement.0) change-at refl in
+        omega (arith, others, may.few_grants periodic, ap (λ k. k.periodic) opens.is_after.table_config)
+
+    -- it keeps its place in the table too
+    pub change-alike : has_place_of had.spec spec ≡ true
+        → IfSome (find (λ p. p.sid == sid) s.table.placed) (λ f. has_place_of f.spec spec ≡ true)
+    change-alike same = rw change-at same
+
+    -- the placement that is told of the table is the one that is kept
+    pub kept-told : (p : Placement)
+        → IfSome (find (λ f. f.sid == sid) s.table.placed) (λ f. IsToldFrom s.table.config spec s.next f.placement p)
+        → IsSomeAnd had.placement (λ stands. IsToldFrom s.config spec (next_after s.config h) stands p)
+    kept-told p told =
+        let at : IsToldFrom s.table.config spec s.next had-placement.0 p = rw change-at at told in
+        rw had-placement.1
+        (subst (λ n. IsToldFrom s.config spec n had-placement.0 p) opens.is_after.next
+        (subst (λ k. IsToldFrom k spec s.next had-placement.0 p) opens.is_after.table_config at))
+
+    -- and the other way round
+    pub told-kept : (p : Placement)
+        → IsSomeAnd had.placement (λ stands. IsToldFrom s.config spec (next_after s.config h) stands p)
+        → IfSome (find (λ f. f.sid == sid) s.table.placed) (λ f. IsToldFrom s.table.config spec s.next f.placement p)
+    told-kept p told =
+        let at : IsToldFrom s.config spec (next_after s.config h) had-placement.0 p = rw had-placement.1 at told in
+        rw change-at
+        (subst (λ k. IsToldFrom k spec s.next had-placement.0 p) (sym opens.is_after.table_config)
+        (subst (λ n. IsToldFrom s.config spec n had-placement.0 p) (sym opens.is_after.next) at))
+
+    -- a placement beside the others in the table is one after the history
+    pub beside : (p : Placement) → IsPlacement s.table.config (without sid s.table.placed) spec s.next p
+        → IsPlacement s.config (without sid (table_of h)) spec (next_after s.config h) p
+    beside p lawful =
+        subst (λ n. IsPlacement s.config (without sid (table_of h)) spec n p) opens.is_after.next
+        (subst (λ ps. IsPlacement s.config (without sid ps) spec s.next p) opens.is_after.placed
+        (subst (λ k. IsPlacement k (without sid s.table.placed) spec s.next p) opens.is_after.table_config lawful))
+
+    -- and the other way round
+    pub beside-table : (p : Placement) → IsPlacement s.config (without sid (table_of h)) spec (next_after s.config h) p
+        → IsPlacement s.table.config (without sid s.table.placed) spec s.next p
+    beside-table p lawful =
+        subst (λ k. IsPlacement k (without sid s.table.placed) spec s.next p) (sym opens.is_after.table_config)
+        (subst (λ ps. IsPlacement s.config (without sid ps) spec s.next p) (sym opens.is_after.placed)
+        (subst (λ n. IsPlacement s.config (without sid (table_of h)) spec n p) (sym opens.is_after.next) lawful))
+
+    -- no place beside them is no place after the history
+    pub none-beside : NoPlacement s.table.config (without sid s.table.placed) spec s.next
+        → NoPlacement s.config (without sid (table_of h)) spec (next_after s.config h)
+    none-beside none = λ p lawful. none p (beside-table p lawful)
