@@ -192,6 +192,7 @@ pub(crate) fn lift_out(groups: &mut Vec<Group>, sid: u16) -> Option<(usize, Plac
     ensures flow { IfSome result (λ out. (c : Config) → AreSoundGroups c groups.old.items → IsSoundFlow c out.1) }
     ensures place { IfSome result (λ out. (c : Config) → AreSoundGroups c groups.old.items
         → HasRoomAt groups.new.items out.1.interval out.1.phase out.0) }
+    ensures within { IfSome result (λ out. out.0 < length groups.new.items) }
     ensures room { (frames frame place : ℕ) → HasRoomAt groups.old.items frames frame place
         → HasRoomAt groups.new.items frames frame place }
     ensures filled { IfSome result (λ out. HaveFlows groups.old.items → HaveFlows (remove groups.new.items out.0)) }
@@ -206,8 +207,21 @@ pub(crate) fn lift_out(groups: &mut Vec<Group>, sid: u16) -> Option<(usize, Plac
     Some((index, flow))
 }
 
-// Takes out the groups that have no flow, so that no frame asks them.
-pub(crate) fn close(groups: &mut Vec<Group>)
+// Takes out the group at this place where it has no flow, so that no frame asks it.
+fn close(groups: &mut Vec<Group>, place: usize)
+    requires { place < length groups.old.items }
+    ensures filled { HaveFlows (remove groups.old.items place) → HaveFlows groups.new.items }
+    ensures same { flows_in groups.new.items ≡ flows_in groups.old.items }
+    ensures sound { (c : Config)
+        → AreSoundGroups c groups.old.items → AreSoundGroups c groups.new.items }
+{
+    if groups[place].flows.is_empty() {
+        groups.remove(place);
+    }
+}
+
+// Takes out all groups that have no flow, so that no frame asks them.
+pub(crate) fn close_all(groups: &mut Vec<Group>)
     ensures filled { HaveFlows groups.new.items }
     ensures same { flows_in groups.new.items ≡ flows_in groups.old.items }
     ensures sound { (c : Config)
@@ -228,7 +242,7 @@ pub(crate) fn take_out(groups: &mut Vec<Group>, sid: u16) -> Option<PlacedFlow>
     ensures absent { IfNone result
         (AllByRecursion (λ f. (f.sid == sid) ≡ false) (flows_in groups.old.items)) }
 {
-    let (_, flow) = lift_out(groups, sid)?;
-    close(groups);
+    let (place, flow) = lift_out(groups, sid)?;
+    close(groups, place);
     Some(flow)
 }

@@ -1,6 +1,6 @@
 //! Placed flows that have other parameters and are placed anew.
 
-ghost use Rattle.std.specs.Prelude.{◌≡◌, ℕ, ◌+◌, ◌^◌, ◌<◌, ◌≤◌, ◌%◌, ◌↔◌, true, false, None, get_or, length};
+ghost use Rattle.std.specs.Prelude.{◌≡◌, ℕ, ◌+◌, ◌^◌, ◌<◌, ◌≤◌, ◌%◌, ◌↔◌, true, false, None, Some, get_or, length};
 ghost use Rattle.std.specs.Prelude.{IfSome, IfNone, IfOk, OnErr, IsErrOf};
 ghost use Rattle.sched_calls.specs.FlowSpec.{is_periodic, grants_of, first_fault};
 ghost use Rattle.periodic.specs.declared.TheConstants.{MAX_STARTS};
@@ -17,7 +17,7 @@ use super::Table;
 use crate::adopt::is_lawful;
 use crate::bits::Bits;
 use crate::counts::Counts;
-use crate::group::{close, flow_of, lift_out, put_in, room_for};
+use crate::group::{close_all, flow_of, lift_out, put_in, room_for};
 use crate::placement::PlaceFault;
 use crate::search::{Chosen, choose};
 use crate::spots::{PlacedFlow, mark};
@@ -28,14 +28,15 @@ use std::alloc::{AllocError, Global};
 
 impl Table {
     /// Gives a placed flow other parameters and places it anew, as [`Table::place`] does, its own placement taken out
-    /// before. It does not rest. Its placement is answered twice, each in memory of its own. After a fault nothing has
-    /// changed.
+    /// before. It does not rest. Its placement is answered, and where it is asked for `twice` once more in memory of its
+    /// own. After a fault nothing has changed.
     pub fn place_anew(
         &mut self,
         sid: u16,
         spec: &FlowSpec,
         next: u64,
-    ) -> Result<(Placement, Placement), PlaceFault>
+        twice: bool,
+    ) -> Result<(Placement, Option<Placement>), PlaceFault>
         requires placed { IsPlaced sid self.old.placed }
         requires periodic { is_periodic spec.now ≡ true }
         requires no_fault { first_fault self.old.config spec.now ≡ None }
@@ -45,11 +46,11 @@ impl Table {
         requires most { next ≤ 2 ^ 61 }
 
         // The placement is lawful beside the other flows, and stands beside them in the table.
-        ensures lawful { IfOk result (λ twice.
-            IsPlacement self.old.config (without sid self.old.placed) spec.now next twice.0) }
-        ensures twice { IfOk result (λ twice. twice.1 ≡ twice.0) }
-        ensures placed { IfOk result (λ twice. self.new.placed
-            ≡ with_placed (placed_at sid spec.now twice.0) (without sid self.old.placed)) }
+        ensures lawful { IfOk result (λ answer.
+            IsPlacement self.old.config (without sid self.old.placed) spec.now next answer.0) }
+        ensures twice { IfOk result (λ answer. twice ≡ true → answer.1 ≡ Some answer.0) }
+        ensures placed { IfOk result (λ answer. self.new.placed
+            ≡ with_placed (placed_at sid spec.now answer.0) (without sid self.old.placed)) }
         ensures config { self.new.config ≡ self.old.config }
 
         // No place is answered exactly where there is none.
@@ -63,11 +64,11 @@ impl Table {
             return Err(PlaceFault::NoPlace);
         };
         let alloc = *self.groups.allocator();
-        let Ok((kept, twice)) = three_of(alloc, chosen.reference, chosen.starts()) else {
+        let Ok((kept, answer)) = copies_of(alloc, chosen.reference, chosen.starts(), twice) else {
             return Err(PlaceFault::Memory);
         };
         match self.move_to(sid, *spec, kept) {
-            Ok(()) => Ok(twice),
+            Ok(()) => Ok(answer),
             Err(_) => Err(PlaceFault::Memory),
         }
     }
@@ -267,7 +268,7 @@ impl Table {
         );
         self.grants = self.grants - old.grants + flow.grants;
         put_in(&mut self.groups, place, flow);
-        close(&mut self.groups);
+        close_all(&mut self.groups);
         Ok(())
     }
 }
@@ -297,21 +298,24 @@ fn lift(
     counts.count(config, flow, taken);
 }
 
-// The placement of this reference and these starts, three times, each in memory of its own.
-fn three_of(
+// The placement of this reference and these starts, to keep and to answer, and where it is asked for once more: each in
+// memory of its own.
+fn copies_of(
     alloc: Global,
     reference: u64,
     starts: &[u16],
-) -> Result<(Placement, (Placement, Placement)), AllocError>
-    ensures kept { IfOk result (λ three. three.0 ≡ placement_at reference starts.now) }
-    ensures first { IfOk result (λ three. three.1.0 ≡ placement_at reference starts.now) }
-    ensures second { IfOk result (λ three. three.1.1 ≡ placement_at reference starts.now) }
+    twice: bool,
+) -> Result<(Placement, (Placement, Option<Placement>)), AllocError>
+    ensures kept { IfOk result (λ copies. copies.0 ≡ placement_at reference starts.now) }
+    ensures answer { IfOk result (λ copies. copies.1.0 ≡ placement_at reference starts.now) }
+    ensures twice { IfOk result
+        (λ copies. twice ≡ true → copies.1.1 ≡ Some (placement_at reference starts.now)) }
 {
     let kept = Placement {
         reference,
         starts: Starts::from_vec(Vec::from_slice(alloc, starts)?),
     };
-    let first = kept.copy(alloc)?;
-    let second = kept.copy(alloc)?;
-    Ok((kept, (first, second)))
+    let answer = kept.copy(alloc)?;
+    let again = if twice { Some(kept.copy(alloc)?) } else { None };
+    Ok((kept, (answer, again)))
 }

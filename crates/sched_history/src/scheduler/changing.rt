@@ -89,7 +89,7 @@ impl State {
         if self.keeps_place(sid, spec) {
             return self.change_in_place(alloc, sid, spec, twice);
         }
-        self.change_place(sid, spec)
+        self.change_place(sid, spec, twice)
     }
 
     // Whether a live flow with other parameters may stand where it stands.
@@ -139,22 +139,22 @@ impl State {
     }
 
     // Changes a flow that is placed anew, where there is a place for it.
-    fn change_place(&mut self, sid: u16, spec: FlowSpec) -> Result<Answer, AllocError>
+    fn change_place(&mut self, sid: u16, spec: FlowSpec, twice: bool) -> Result<Answer, AllocError>
         requires open { IsOpen self.old (Call.Change sid spec) }
         requires periodic { is_periodic spec ≡ true }
         requires other { IfSome (flow_of sid self.old.book.flows) (λ f. has_place_of f.spec spec ≡ false) }
         ensures answered { IfOk result
             (λ a. FollowsOpen self.old self.new (Call.Change sid spec) a.reply) }
-        ensures copied { IfOk result (λ a. a.copy ≡ Some a.reply) }
+        ensures copied { IfOk result (λ a. twice ≡ true → a.copy ≡ Some a.reply) }
         ensures err { OnErr result (self.new ≡ self.old) }
         ensures memory { OnErr result (TakesMemoryOpen self.old (Call.Change sid spec)) }
     {
-        match self.table.place_anew(sid, &spec, self.next) {
+        match self.table.place_anew(sid, &spec, self.next, twice) {
             Ok((placement, copy)) => {
                 self.book.change(sid, spec);
                 Ok(Answer {
                     reply: Reply::Changed(Some(placement)),
-                    copy: Some(Reply::Changed(Some(copy))),
+                    copy: copy.map(|placement| Reply::Changed(Some(placement))),
                 })
             }
             Err(PlaceFault::NoPlace) => Ok(Answer {

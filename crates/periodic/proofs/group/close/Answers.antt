@@ -1,20 +1,27 @@
--- The groups that have flows are left.
-use Rattle.std.proofs.Common.{◌≡◌, ◌∙◌, ap, filter, rules}
-use Rattle.std.proofs.lemmas.Fn.{filter_same}
-use Rattle.flow_book.proofs.Removal.{all-filter}
-use Rattle.periodic.specs.Groups.{flows_in, IsSoundGroup}
-use Rattle.periodic.proofs.Filled.{has_flows, flows-filled, filled-all}
+-- A group without flows goes, and any other stays.
+use Rattle.std.proofs.Common.{◌≡◌, refl, sym, ap, ◌∙◌, ◌<◌, List, [], ◌∷◌, length, arith}
+use Rattle.std.proofs.lemmas.Bool.Decides.{nat_tests}
+use Rattle.periodic.specs.declared.group.Group.{Group}
+use Rattle.periodic.specs.declared.spots.PlacedFlow.{PlacedFlow}
+use Rattle.periodic.specs.Groups.{flows_in}
+use Rattle.periodic.proofs.Filled.{all-again, flows-without}
 use Rattle.periodic.proofs.group.close.Goals as goal
 
-left : (c : goal.After-retain) → c.retain.new.self.items ≡ filter has_flows c.args.groups.now.items
-left c = filter_same _ has_flows _ (λ x b f' k. let long = x.flows.ok.0 in search rules) _ _ c.retain.ensures.filtered
+none-of : (flows : List PlacedFlow) → length flows ≡ 0 → flows ≡ []
+none-of [] long = refl
+none-of (f ∷ flows) long = absurd (omega (arith, long))
 
-pub returns-clause-filled : goal.returns-clause-filled
-returns-clause-filled c = rw (left c) (filled-all c.args.groups.now.items)
+pub returns-then-is_empty-clause-same : goal.returns-then-is_empty-clause-same
+returns-then-is_empty-clause-same c =
+    let g = c.index.result.now in
+    let is = sym c.is_empty.ensures ∙ c.if-is_empty.true in
+    let long : length g.flows.items ≡ 0 = grind (arith, nat_tests, is, g.flows.ok.0) in
+    ap flows_in c.remove.ensures.items
+    ∙ flows-without c.args.groups.now.items c.args.place g c.requires c.index.ensures (none-of g.flows.items long)
 
-pub returns-clause-same : goal.returns-clause-same
-returns-clause-same c = ap flows_in (left c) ∙ flows-filled c.args.groups.now.items
-
-pub returns-clause-sound : goal.returns-clause-sound
-returns-clause-sound c = λ config sound.
-    rw (left c) (all-filter (IsSoundGroup config) has_flows c.args.groups.now.items sound)
+pub returns-else-is_empty-clause-filled : goal.returns-else-is_empty-clause-filled
+returns-else-is_empty-clause-filled c = λ others.
+    let g = c.index.result.now in
+    let is = sym c.is_empty.ensures ∙ c.if-is_empty.false in
+    let some : 0 < length g.flows.items = grind (arith, nat_tests, is, g.flows.ok.0) in
+    all-again (λ (h : Group). 0 < length h.flows.items) c.args.groups.now.items c.args.place g c.index.ensures some others

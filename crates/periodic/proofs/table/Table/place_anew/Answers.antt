@@ -1,16 +1,16 @@
 -- Where a placement was chosen there is a place.
-use Rattle.std.proofs.Common.{◌≡◌, Result, Err}
+use Rattle.std.proofs.Common.{◌≡◌, Option, Result, Err}
 use Rattle.sched_calls.specs.declared.placement.Placement.{Placement}
 use Rattle.periodic.specs.declared.placement.PlaceFault.{PlaceFault}
 use Rattle.periodic.specs.declared.placement.PlaceFault.TheVariants.{NoPlace, Memory}
 use Rattle.periodic.specs.Search.{chosen_placement}
 use Rattle.periodic.proofs.table.Table.place_anew.Goals as goal
 
-differ : ◌≡◌ {A = Result (Placement × Placement) PlaceFault} (Err Memory) (Err NoPlace) → ⊥
+differ : ◌≡◌ {A = Result (Placement × Option Placement) PlaceFault} (Err Memory) (Err NoPlace) → ⊥
 differ same = cc
 
-pub returns-in_default-three_of-clause-no_place : goal.returns-in_default-three_of-clause-no_place
-returns-in_default-three_of-clause-no_place c = (
+pub returns-in_default-copies_of-clause-no_place : goal.returns-in_default-copies_of-clause-no_place
+returns-in_default-copies_of-clause-no_place c = (
   λ is. absurd (differ is),
   λ none. absurd (none (chosen_placement c.in-Some.chosen) c.in-Some.ensures.chosen.lawful),
 )
