@@ -41,11 +41,20 @@ module _ {X : Type 0} where
   remove-last [] x = refl
   remove-last (y ∷ xs) x = ap (λ ys. y ∷ ys) (remove-last xs x)
 
+-- without a group that has no flow the flows are the same
+pub flows-without : (groups : List Group) (i : ℕ) (g : Group) → i < length groups → g ≡ get_or groups i g
+    → g.flows.items ≡ [] → flows_in (remove groups i) ≡ flows_in groups
+flows-without [] i g within is none = absurd (omega (arith, within))
+flows-without (x ∷ groups) zero g within is none =
+    sym (ap (λ fs. fs ++ flows_in groups) (ap (λ (h : Group). h.flows.items) (sym is) ∙ none))
+flows-without (x ∷ groups) (suc i) g within is none =
+    ap (λ fs. x.flows.items ++ fs) (flows-without groups i g (omega (arith, within)) is none)
+
 -- whether a group has flows
 abbrev pub has_flows : Group → Bool
 has_flows g = not (length g.flows.items == 0)
 
-none-of : (flows : List PlacedFlow) → length flows ≡ 0 → flows ≡ []
+pub none-of : (flows : List PlacedFlow) → length flows ≡ 0 → flows ≡ []
 none-of [] long = refl
 none-of (f ∷ flows) long = absurd (omega (arith, long))
 

@@ -1,15 +1,10 @@
 -- A group without flows goes, and any other stays.
-use Rattle.std.proofs.Common.{◌≡◌, refl, sym, ap, ◌∙◌, ◌<◌, List, [], ◌∷◌, length, arith}
+use Rattle.std.proofs.Common.{◌≡◌, sym, ap, ◌∙◌, ◌<◌, length, arith}
 use Rattle.std.proofs.lemmas.Bool.Decides.{nat_tests}
 use Rattle.periodic.specs.declared.group.Group.{Group}
-use Rattle.periodic.specs.declared.spots.PlacedFlow.{PlacedFlow}
 use Rattle.periodic.specs.Groups.{flows_in}
-use Rattle.periodic.proofs.Filled.{all-again, flows-without}
+use Rattle.periodic.proofs.Filled.{all-again, flows-without, none-of}
 use Rattle.periodic.proofs.group.close.Goals as goal
-
-none-of : (flows : List PlacedFlow) → length flows ≡ 0 → flows ≡ []
-none-of [] long = refl
-none-of (f ∷ flows) long = absurd (omega (arith, long))
 
 pub returns-then-is_empty-clause-same : goal.returns-then-is_empty-clause-same
 returns-then-is_empty-clause-same c =

@@ -100,12 +100,12 @@ taken : (c : goal.After-drop-old) → HasOneMore c.in-Some.old (flows_in c.lift_
     (flows_in c.self.inside.groups.items)
 taken c = rw c.room_for.ensures.same at c.in-Some.ensures.taken
 
-placed : (c : goal.After-drop-old) → placed_in c.close.new.groups.items
+placed : (c : goal.After-drop-old) → placed_in c.close_all.new.groups.items
     ≡ with_placed (placed_of c.args.flow) (without c.args.flow.sid (placed_in c.self.inside.groups.items))
 placed c =
     order-instead c.args.flow.sid c.in-Some.old c.args.flow (flows_in c.lift_out.new.groups.items)
-    (flows_in c.self.inside.groups.items) (flows_in c.close.new.groups.items) (taken c)
-    (rw c.close.ensures.same c.put_in.ensures.added) c.in-Some.ensures.sid refl c.self.invariant.sound.ascending
+    (flows_in c.self.inside.groups.items) (flows_in c.close_all.new.groups.items) (taken c)
+    (rw c.close_all.ensures.same c.put_in.ensures.added) c.in-Some.ensures.sid refl c.self.invariant.sound.ascending
 
 stands : (c : goal.After-drop-old)
     → StandsAmong c.args.flow.sid (placed_of c.in-Some.old) (placed_in c.self.inside.groups.items)
@@ -172,9 +172,9 @@ invariant_of-self-2 c =
     let sum = grants-without flow.sid (placed_of old) all (stands c).found c.self.invariant.sound.ascending in
     rw (take_at c.lift-2.new.rows _ a.rows.len long) (record {
       sound = rw (placed c) (those c).sound;
-      each = c.close.ensures.sound a.config (c.put_in.ensures.sound a.config (c.lift_out.ensures.sound a.config
+      each = c.close_all.ensures.sound a.config (c.put_in.ensures.sound a.config (c.lift_out.ensures.sound a.config
           (c.room_for.ensures.sound a.config c.self.invariant.each)) sound);
-      filled = c.close.ensures.filled;
+      filled = c.close_all.ensures.filled;
       told = rw (placed c) (those c).told;
       bounded = c.lift-2.ensures.bounded;
       counted = rw (placed c) (those c).counted;
