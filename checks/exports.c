@@ -41,6 +41,9 @@ static struct {
   uint8_t text[4096], payload[MAPSCHED_MAX_BYTES];
 } now, before;
 
+/* How many bytes the first line of a journal has. */
+static size_t opening;
+
 static const struct mapsched_config config = BASE_CONFIGURATION(10);
 static const struct mapsched_stamp stamp = {.ticket = 0, .seat = 0};
 static const struct mapsched_call voice = {.kind = MAPSCHED_ADMIT,
@@ -106,6 +109,13 @@ static uint32_t opens_journal(void) {
   return mapsched_opening(&now.scheduler, now.text, sizeof now.text, &now.length);
 }
 static uint32_t writes_lines(void) { return mapsched_lines(&now.scheduler, now.text, sizeof now.text, &now.length); }
+static uint32_t writes_behind(void) {
+  return mapsched_lines(&now.scheduler, now.text + opening, sizeof now.text - opening, &now.length);
+}
+static uint32_t resumes(void) { return mapsched_resume(&now.scheduler, now.text, opening + now.length, &now.place); }
+static uint32_t says_why(void) {
+  return mapsched_refusal_words(16, 800, now.text, sizeof now.text, &now.length);
+}
 static uint32_t audits(void) { return mapsched_audit(now.text, now.length, &now.place); }
 static uint32_t decodes(void) { return mapsched_decode(now.reply.payload, now.reply.length, &now.map, &now.place); }
 static uint32_t encodes(void) {
@@ -147,7 +157,20 @@ static void alone(void) {
   make(writes_lines);
   make(writes);
   make(audits);
-  if (now.place != 9 || mapsched_close(&now.scheduler) != MAPSCHED_OK) end("not nine entries", 3);
+  if (now.place != 9) end("not nine entries", 3);
+  make(opens_journal);
+  opening = now.length;
+  make(writes_behind);
+  if (mapsched_close(&now.scheduler) != MAPSCHED_OK) end("not closed", 3);
+}
+
+/* A scheduler that goes on after the journal of that. */
+static void resumed(void) {
+  make(resumes);
+  if (now.place != opening + now.length) end("not all lines", 3);
+  look();
+  if (now.count != 9 || mapsched_close(&now.scheduler) != MAPSCHED_OK) end("not nine entries behind it", 3);
+  make(says_why);
 }
 
 /* Two workers. */
@@ -178,6 +201,7 @@ static void without_end(void) {
 int main(void) {
   setvbuf(stdout, NULL, _IONBF, 0);
   alone();
+  resumed();
   workers();
   without_end();
   end("whole", 0);

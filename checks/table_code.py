@@ -333,9 +333,21 @@ def of_refusals():
         yield f"crates/file_words/src/walk.rt: {part}", part in found, True
 
 
+def of_words():
+    """What the exports say of statuses, in the code and in its contract."""
+    code, contract = "crates/mapsched_c/src/words.rt", "crates/mapsched_c/specs/Words.antt"
+    wanted = [[it["text"] for it in STATUSES], *map(words_of_group, GROUPS)]
+    found = re.findall(r"^static \w+: \[&\[u8\]; \d+\] = \[(.*?)\];", code_of(code), re.M | re.S)
+    yield code, [re.findall(r'b"([^"]*)"', it) for it in found], wanted
+    found = re.findall(r"^\w+ =\n((?:    .*\n)+)", code_of(contract), re.M)
+    found = [re.findall(r'codes "([^"]*)"', it) for it in found if "codes" in it]
+    yield contract, found, wanted
+
+
 def of_faults():
     wanted = {it["name"]: number for number, it in enumerate(STATUSES)} | {it["name"]: it["number"] for it in GROUPS}
     yield "crates/mapsched_c/src/status.rt", constants("crates/mapsched_c/src/status.rt"), wanted
+    yield from of_words()
     for path, name, kind in [("fault", "DecodeFault", "payload"), ("map_fault", "MapFault", "map")]:
         found = [it for it, _ in variants(f"crates/map_codec/src/{path}.rt", f"pub enum {name} {{") if it != "Memory"]
         yield f"crates/map_codec/src/{path}.rt", found, [it["code"] for it in TABLES[kind]]

@@ -78,6 +78,7 @@ enum mapsched_status {
   MAPSCHED_HANDED_OVER = 18,  /* an entry, or one of a history, is no longer kept: it was let go */
   MAPSCHED_NO_TURN = 19,      /* the worker is not in its turn */
   MAPSCHED_KEEPS_ALL = 20,    /* the scheduler of the workplace keeps its whole history: nothing was let go */
+  MAPSCHED_NO_WORDS = 21,     /* no status or no refusal has this number */
   MAPSCHED_BAD_CONFIG = 100,  /* and the number of the first wrong field: 101 to 123, by docs/REFERENCE.md */
   MAPSCHED_BAD_PAYLOAD = 200, /* and the number of the first fault: 201 to 207, by docs/REFERENCE.md */
   MAPSCHED_BAD_MAP = 300,     /* and the number of the first fault of numbers that are no MAP: 301 to 305 */
@@ -222,6 +223,15 @@ uint32_t mapsched_check(const struct mapsched_config *config);
 
 /* Opens a scheduler into an empty handle. */
 uint32_t mapsched_open(struct mapsched_scheduler *scheduler, const struct mapsched_config *config);
+
+/*
+ * Opens a scheduler into an empty handle that goes on after a journal, whose bytes are given: its lines are judged one
+ * by one, as `mapsched audit --journal` does. Their entries are its whole history, and none of them is kept, so that
+ * mapsched_lines writes those behind them. Bytes behind the last newline are left out. Tells how many bytes the whole
+ * lines have; of MAPSCHED_ILLEGAL the entry, from 0; of MAPSCHED_NO_HISTORY the line, from 0: the configuration.
+ */
+uint32_t mapsched_resume(struct mapsched_scheduler *scheduler, const uint8_t *journal, size_t journal_length,
+                         size_t *place);
 
 /* Makes a call, which is recorded, and writes its reply. A refusal is a reply. */
 uint32_t mapsched_call(struct mapsched_scheduler *scheduler, const struct mapsched_stamp *stamp,
@@ -377,13 +387,25 @@ uint32_t mapsched_leave(struct mapsched_worker *worker);
 /* When all others have left: closes the workplace, and puts its scheduler with the history into an empty handle. */
 uint32_t mapsched_close_workers(struct mapsched_worker *worker, struct mapsched_scheduler *scheduler);
 
+/* Writes the version, as 0.2.0, and tells its length. No text of the library ends with a zero. */
+uint32_t mapsched_version(uint8_t *room, size_t room_length, size_t *length);
+
+/* Writes what a status says, as mapsched_status_text does, and tells its length. */
+uint32_t mapsched_status_words(uint32_t number, uint8_t *room, size_t room_length, size_t *length);
+
+/*
+ * Writes what a refusal means, as `mapsched run --explain` does, and tells its length. The number and the value are
+ * those of its reply; a refusal without a value does not read it.
+ */
+uint32_t mapsched_refusal_words(uint32_t number, uint64_t value, uint8_t *room, size_t room_length, size_t *length);
+
 /* What a status says, in English. */
 static inline const char *mapsched_status_text(uint32_t status) {
   /* checks/tables: texts begin */
   static const char *const texts[] = {
       "ok", "no scheduler", "a scheduler already", "no such call", "history full", "out of memory", "no such entry",
       "no room", "illegal", "text too long", "not json", "no history", "no ticket", "not served", "has a ticket",
-      "no seat", "workers left", "seats", "not kept", "no turn", "keeps all",
+      "no seat", "workers left", "seats", "not kept", "no turn", "keeps all", "no such number",
   };
   static const char *const fields[] = {
       "ticks", "bytes_per_slot", "overhead", "frame", "cycle", "req_slots", "poll_slots", "lead", "short_max",
@@ -398,7 +420,7 @@ static inline const char *mapsched_status_text(uint32_t status) {
   };
   static const char *const request_faults[] = {"length", "kind", "sid", "hcs"};
   /* checks/tables: texts end */
-  if (status <= MAPSCHED_KEEPS_ALL) return texts[status];
+  if (status <= MAPSCHED_NO_WORDS) return texts[status];
   if (status > MAPSCHED_BAD_CONFIG && status <= MAPSCHED_BAD_CONFIG + MAPSCHED_CONFIG_FIELDS)
     return fields[status - MAPSCHED_BAD_CONFIG - 1];
   if (status > MAPSCHED_BAD_PAYLOAD && status <= MAPSCHED_BAD_PAYLOAD + MAPSCHED_PAYLOAD_FAULTS)

@@ -502,6 +502,88 @@ static void bursts(void) {
   WANT(mapsched_check(&config) == MAPSCHED_BAD_CONFIG + 20);
 }
 
+/* Whether the words of a status are those of the header; where that has none nothing is told. */
+static int has_its_words(uint32_t number) {
+  const char *wanted = mapsched_status_text(number);
+  uint8_t room[100] = {0};
+  size_t length = 99;
+  uint32_t status = mapsched_status_words(number, room, sizeof room, &length);
+  if (strcmp(wanted, "unknown status") == 0) return status == MAPSCHED_NO_WORDS && length == 99 && room[0] == 0;
+  return status == MAPSCHED_OK && length == strlen(wanted) && memcmp(room, wanted, length + 1) == 0;
+}
+
+/* The version, and what statuses and refusals say. */
+static void words(void) {
+  static const char late[] = "too late: the next frame starts at 800, and the clock with its lead is past it";
+  uint8_t room[200] = {0};
+  size_t length = 99;
+
+  WANT(mapsched_version(room, 4, &length) == MAPSCHED_NO_ROOM && length == strlen(MAPSCHED_VERSION) && room[0] == 0);
+  WANT(mapsched_version(room, sizeof room, &length) == MAPSCHED_OK);
+  WANT(length == strlen(MAPSCHED_VERSION) && memcmp(room, MAPSCHED_VERSION, length + 1) == 0);
+  for (uint32_t number = 0; number < 1000; number++) WANT(has_its_words(number));
+  WANT(has_its_words(UINT32_MAX));
+  WANT(mapsched_refusal_words(16, 800, room, 10, &length) == MAPSCHED_NO_ROOM && length == sizeof late - 1);
+  WANT(mapsched_refusal_words(16, 800, room, sizeof room, &length) == MAPSCHED_OK);
+  WANT(length == sizeof late - 1 && memcmp(room, late, sizeof late) == 0);
+  length = 99;
+  WANT(mapsched_refusal_words(0, 0, room, sizeof room, &length) == MAPSCHED_NO_WORDS && length == 99);
+  WANT(mapsched_refusal_words(3, 8, room, sizeof room, &length) == MAPSCHED_NO_WORDS && length == 99);
+  WANT(mapsched_refusal_words(24, 0, room, sizeof room, &length) == MAPSCHED_NO_WORDS && room[0] == 't');
+}
+
+/* Whether a journal is no one's to go on after: the status and the place, and that the handle stays empty. */
+static int is_wrong(const uint8_t *journal, size_t length, uint32_t wanted, size_t at) {
+  struct mapsched_scheduler scheduler = {0};
+  size_t place = 99;
+  uint32_t status = mapsched_resume(&scheduler, journal, length, &place);
+  return status == wanted && place == at && !scheduler.full;
+}
+
+/* A scheduler that goes on after a journal answers as the one that wrote it; a journal that is wrong has its place. */
+static void resuming(void) {
+  struct mapsched_config config = lawful();
+  struct mapsched_scheduler before = {0}, after = {0};
+  struct mapsched_stamp stamp = {.ticket = 0, .seat = 0};
+  struct mapsched_call data = {.kind = MAPSCHED_ADMIT, .flow = MAPSCHED_BEST_EFFORT, .sid = 6};
+  struct mapsched_call build = {.kind = MAPSCHED_BUILD, .minislot = 760};
+  struct mapsched_reply reply, wanted;
+  struct mapsched_entry entry;
+  static uint8_t text[10000];
+  size_t first = 0, whole = 0, length = 0, place = 99, count = 0;
+  config.calls = 5;
+  memset(&reply, 0, sizeof reply);
+  memset(&wanted, 0, sizeof wanted);
+
+  WANT(mapsched_open(&before, &config) == MAPSCHED_OK);
+  WANT(mapsched_call(&before, &stamp, &data, &wanted) == MAPSCHED_OK);
+  WANT(mapsched_call(&before, &stamp, &build, &wanted) == MAPSCHED_OK && wanted.kind == MAPSCHED_BUILT);
+  WANT(mapsched_opening(&before, text, sizeof text, &first) == MAPSCHED_OK);
+  WANT(mapsched_lines(&before, text + first, sizeof text - first, &length) == MAPSCHED_OK);
+  whole = first + length;
+  memcpy(text + whole, "{\"torn", 6);
+
+  WANT(mapsched_resume(&after, text, whole + 6, &place) == MAPSCHED_OK && after.full && place == whole);
+  WANT(mapsched_count(&after, &count) == MAPSCHED_OK && count == 2);
+  WANT(mapsched_kept_from(&after, &place) == MAPSCHED_OK && place == 2);
+  WANT(mapsched_entry(&after, 1, &entry) == MAPSCHED_HANDED_OVER);
+  build.minislot = 800;
+  WANT(mapsched_call(&before, &stamp, &build, &wanted) == MAPSCHED_OK);
+  WANT(mapsched_call(&after, &stamp, &build, &reply) == MAPSCHED_OK && memcmp(&reply, &wanted, sizeof reply) == 0);
+  WANT(mapsched_resume(&after, text, whole, &place) == MAPSCHED_FULL && place == 2);
+  WANT(mapsched_close(&before) == MAPSCHED_OK && mapsched_close(&after) == MAPSCHED_OK);
+
+  /* The opening alone is a journal without entries. */
+  WANT(mapsched_resume(&after, text, first, &place) == MAPSCHED_OK && place == first);
+  WANT(mapsched_count(&after, &count) == MAPSCHED_OK && count == 0 && mapsched_close(&after) == MAPSCHED_OK);
+  WANT(is_wrong(text, 0, MAPSCHED_NO_HISTORY, 0) && is_wrong(text, first - 1, MAPSCHED_NO_HISTORY, 0));
+  WANT(is_wrong(text + first, length, MAPSCHED_NO_HISTORY, 0));
+  text[whole + 6] = '\n';
+  WANT(is_wrong(text, whole + 7, MAPSCHED_NO_HISTORY, 3));
+  *strstr(strstr((char *)text, "\"ack\":800"), "800") = '9';
+  WANT(is_wrong(text, whole, MAPSCHED_ILLEGAL, 1));
+}
+
 int main(void) {
   struct mapsched_config config = lawful(), wrong = lawful();
   struct mapsched_scheduler scheduler = {0};
@@ -638,11 +720,13 @@ int main(void) {
   WANT(reply.starts[0] == 4 && reply.starts[1] == 10 && reply.starts[2] == 16);
   WANT(mapsched_entry(&scheduler, 1, &entry) == MAPSCHED_OK && memcmp(&entry.call, &voice, NUMBERS) == 0);
   WANT(mapsched_close(&scheduler) == MAPSCHED_OK);
-  WANT(strcmp(mapsched_status_text(21), "unknown status") == 0);
+  WANT(strcmp(mapsched_status_text(22), "unknown status") == 0);
   WANT(strcmp(mapsched_status_text(100), "unknown status") == 0);
+  words();
   workers();
   forgetting();
   journals();
+  resuming();
   turns();
   frames();
   opportunities();

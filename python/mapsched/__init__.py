@@ -15,21 +15,24 @@ docs/PYTHON.md has a whole example. Units: minislots, bytes, microseconds, bits 
 from .calls import Admit, Ask, BestEffort, Build, Bursts, Call, Change, Config, Flow, Header, Heard, Polled, Profile
 from .calls import Remove, Replace, Reserve, Rest, Skip, Status, Unsolicited, Wake, call_of
 # checks/tables: imports end
-from .faults import BadConfig, BadMap, BadPayload, Closed, Fault, HandedOver, HistoryFull, NoHistory, OutOfMemory
+from .faults import BadConfig, BadJournal, BadMap, BadPayload, BadRequest, Closed, Fault, HandedOver, HistoryFull
+from .faults import NoHistory, OutOfMemory
+from .frames import AsksMinislots, TellsQueue, map_frame, read_request
 from .maps import Element, Map, decode, encode
 from .replies import Admitted, Built, Changed, FlowBytes, Noted, Placed, Refusal, Refused, Removed, Reply, Reserved
 from .replies import Skipped, Taken
-from .scheduler import Entry, Illegal, Legal, Scheduler, audit, check
+from .scheduler import Entry, Illegal, Legal, Scheduler, audit, check, library_version
 
 __version__ = "0.2.0"
 
 # checks/tables: exports begin
 __all__ = [
-    "Admit", "Admitted", "Ask", "BadConfig", "BadMap", "BadPayload", "BestEffort", "Build", "Built", "Bursts", "Call",
-    "Change", "Changed", "Closed", "Config", "Element", "Entry", "Fault", "Flow", "FlowBytes", "HandedOver", "Header",
-    "Heard", "HistoryFull", "Illegal", "Legal", "Map", "NoHistory", "Noted", "OutOfMemory", "Placed", "Polled",
-    "Profile", "Refusal", "Refused", "Remove", "Removed", "Replace", "Reply", "Reserve", "Reserved", "Rest",
-    "Scheduler", "Skip", "Skipped", "Status", "Taken", "Unsolicited", "Wake", "audit", "call_of", "check", "decode",
-    "encode",
+    "Admit", "Admitted", "Ask", "AsksMinislots", "BadConfig", "BadJournal", "BadMap", "BadPayload", "BadRequest",
+    "BestEffort", "Build", "Built", "Bursts", "Call", "Change", "Changed", "Closed", "Config", "Element", "Entry",
+    "Fault", "Flow", "FlowBytes", "HandedOver", "Header", "Heard", "HistoryFull", "Illegal", "Legal", "Map",
+    "NoHistory", "Noted", "OutOfMemory", "Placed", "Polled", "Profile", "Refusal", "Refused", "Remove", "Removed",
+    "Replace", "Reply", "Reserve", "Reserved", "Rest", "Scheduler", "Skip", "Skipped", "Status", "Taken", "TellsQueue",
+    "Unsolicited", "Wake", "audit", "call_of", "check", "decode", "encode", "library_version", "map_frame",
+    "read_request",
 ]
 # checks/tables: exports end

@@ -4,6 +4,8 @@ from __future__ import annotations
 
 from typing import Optional
 
+from .library import text_of
+
 # checks/tables: texts begin
 _FIELDS = [
     "ticks", "bytes_per_slot", "overhead", "frame", "cycle", "req_slots", "poll_slots", "lead", "short_max", "quantum",
@@ -55,6 +57,15 @@ class NoHistory(Fault, ValueError):
         super().__init__(status, words)
 
 
+class BadJournal(Fault, ValueError):
+    """A journal is wrong. `line` is the first, from 0, that is no entry or may not follow those before it; 0 where the
+    first is no lawful configuration, or there is none."""
+
+    def __init__(self, status: int, line: int) -> None:
+        self.line = line
+        super().__init__(status, f"bad journal at {line}")
+
+
 class BadPayload(Fault, ValueError):
     """`number` is the fault of a payload in docs/REFERENCE.md, `element` where it is, from 0, where one is told."""
 
@@ -71,11 +82,19 @@ class BadMap(Fault, ValueError):
         super().__init__(status, f"fault {number}: {_MAP[number - 1]}" + _at(element))
 
 
+class BadRequest(Fault, ValueError):
+    """Bytes are no request frame. `number` is their first fault in the header's list."""
+
+    def __init__(self, status: int) -> None:
+        self.number = status - BAD_REQUEST
+        super().__init__(status, f"fault {self.number}: {text_of('status_words', status)[1].decode()}")
+
+
 def _at(element: Optional[int]) -> str:
     return "" if element is None else f" at element {element}"
 
 
-OK, NO_ROOM, ILLEGAL = 0, 7, 8
+OK, ILLEGAL, NO_HISTORY, BAD_REQUEST = 0, 8, 11, 400
 _BAD_CONFIG, _BAD_PAYLOAD, _BAD_MAP = 100, 200, 300
 _WORDS = {9: "text too long", 10: "not json"}
 
@@ -92,7 +111,7 @@ def fault_of(status: int, place: int = 0) -> Fault:
         return HandedOver(status, "not kept")
     if status in _WORDS:
         return NoHistory(status, _WORDS[status], None)
-    if status == 11:
+    if status == NO_HISTORY:
         return NoHistory(status, f"bad script at {place}", place)
     return _numbered(status, place)
 
@@ -103,6 +122,8 @@ def _numbered(status: int, place: int) -> Fault:
     if _BAD_PAYLOAD < status < _BAD_MAP:
         number = status - _BAD_PAYLOAD
         return BadPayload(status, number, place if number in (4, 5, 7) else None)
+    if status > BAD_REQUEST:
+        return BadRequest(status)
     if status > _BAD_MAP:
         number = status - _BAD_MAP
         return BadMap(status, number, place if number in (2, 3, 5) else None)

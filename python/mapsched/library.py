@@ -4,9 +4,10 @@ from __future__ import annotations
 
 import ctypes
 import os
-from ctypes import POINTER, Structure, Union, c_size_t, c_uint8, c_uint16, c_uint32, c_uint64, c_void_p
+from ctypes import POINTER, Structure, Union, byref, c_size_t, c_uint8, c_uint16, c_uint32, c_uint64, c_void_p
 
 MAX_STARTS, MAX_BYTES, MAX_ELEMENTS = 512, 976, 240
+_NO_ROOM = 7
 # The library's name has the version up to which its interface stays the same (docs/VERSIONS.md).
 SONAME = "libmapsched.so.0.2"
 
@@ -138,6 +139,7 @@ _FUNCTIONS = {
     "check": [POINTER(ConfigNumbers)],
     "open": [POINTER(Handle), POINTER(ConfigNumbers)],
     "call": [POINTER(Handle), POINTER(StampNumbers), POINTER(CallNumbers), POINTER(ReplyNumbers)],
+    "resume": [POINTER(Handle), _BYTES, c_size_t, _SIZE],
     "count": [POINTER(Handle), _SIZE],
     "kept_from": [POINTER(Handle), _SIZE],
     "forget": [POINTER(Handle)],
@@ -148,6 +150,11 @@ _FUNCTIONS = {
     "audit": [_BYTES, c_size_t, _SIZE],
     "decode": [_BYTES, c_size_t, POINTER(MapNumbers), _SIZE],
     "encode": [POINTER(MapNumbers), _BYTES, c_size_t, _SIZE, _SIZE],
+    "map_frame": [_BYTES, c_size_t, _BYTES, _BYTES, c_size_t, _SIZE],
+    "request": [_BYTES, c_size_t, POINTER(c_uint32), POINTER(c_uint16), POINTER(c_uint16)],
+    "version": [_BYTES, c_size_t, _SIZE],
+    "status_words": [c_uint32, _BYTES, c_size_t, _SIZE],
+    "refusal_words": [c_uint32, c_uint64, _BYTES, c_size_t, _SIZE],
     "close": [POINTER(Handle)],
 }
 
@@ -172,6 +179,16 @@ _library = _load()
 def run(name: str, *arguments: object) -> int:
     """Calls a function of the library by its name without `mapsched_`, and gives its status."""
     return getattr(_library, f"mapsched_{name}")(*arguments)
+
+
+def text_of(name: str, *arguments: object) -> tuple[int, bytes]:
+    """The status of a function that writes a text behind its other arguments, and that text, whatever its length."""
+    length, room = c_size_t(), (c_uint8 * 1)()
+    status = run(name, *arguments, room, 0, byref(length))
+    if status == _NO_ROOM:
+        room = (c_uint8 * length.value)()
+        status = run(name, *arguments, room, length.value, byref(length))
+    return status, bytes(room)[: length.value]
 
 
 def members_of(struct: type) -> dict[str, type]:

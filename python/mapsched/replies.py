@@ -6,7 +6,7 @@ from dataclasses import dataclass
 from enum import IntEnum
 from typing import Optional, Union
 
-from .library import ReplyNumbers
+from .library import ReplyNumbers, text_of
 
 
 class Refusal(IntEnum):
@@ -143,6 +143,11 @@ class Refused:
     @property
     def line(self) -> str:
         return f"refused {self.refusal:d}" + ("" if self.value is None else f" {self.value}")
+
+    @property
+    def words(self) -> str:
+        """What it means, as `mapsched run --explain` prints it."""
+        return text_of("refusal_words", self.refusal, self.value or 0)[1].decode()
 
 
 @dataclass(frozen=True)

@@ -2,15 +2,16 @@
 
 from __future__ import annotations
 
-from ctypes import byref, c_size_t, c_uint8
+import os
+from ctypes import byref, c_size_t
 from dataclasses import dataclass
 from threading import Lock
 from typing import Iterator, Optional, Union
 
 from . import calls, replies
 from .calls import Call, Config
-from .faults import ILLEGAL, NO_ROOM, want
-from .library import EntryNumbers, Handle, ReplyNumbers, StampNumbers, bytes_of, fill, run
+from .faults import ILLEGAL, NO_HISTORY, BadJournal, want
+from .library import EntryNumbers, Handle, ReplyNumbers, StampNumbers, bytes_of, fill, run, text_of
 from .replies import Reply
 
 
@@ -43,6 +44,13 @@ def check(config: Config) -> None:
     want(run("check", config.numbers()))
 
 
+def library_version() -> str:
+    """The version of the library, which may be another than that of the module within the same interface."""
+    status, version = text_of("version")
+    want(status)
+    return version.decode()
+
+
 def audit(history: Union[str, bytes]) -> Union[Legal, Illegal]:
     """The verdict on the text of a history, whoever wrote it. What is none raises NoHistory or BadConfig."""
     text = history.encode() if isinstance(history, str) else history
@@ -60,9 +68,28 @@ class Scheduler:
     Threads may share it: their calls are made one after the other. `close`, or the end of a `with`, frees it.
     """
 
+    # How many bytes the whole lines of the journal have after which it goes on; None where it began without one.
+    journal_bytes: Optional[int] = None
+
     def __init__(self, config: Config) -> None:
         self._handle, self._lock = Handle(), Lock()
         want(run("open", self._handle, config.numbers()))
+
+    @classmethod
+    def resume(cls, path: Union[str, "os.PathLike[str]"]) -> "Scheduler":
+        """The scheduler that goes on after the journal in a file, whose entries are judged one by one: they are its
+        whole history, and none is kept. Bytes behind the last newline are left out; the file stays as it is, and
+        `journal_bytes` tells where its whole lines end. Raises BadJournal, and what `open` raises."""
+        with open(path, "rb") as file:
+            journal = file.read()
+        found, place = cls.__new__(cls), c_size_t()
+        found._handle, found._lock = Handle(), Lock()
+        status = run("resume", found._handle, bytes_of(journal), len(journal), byref(place))
+        if status in (ILLEGAL, NO_HISTORY):
+            raise BadJournal(status, place.value + (status == ILLEGAL))
+        want(status)
+        found.journal_bytes = place.value
+        return found
 
     def __enter__(self) -> "Scheduler":
         return self
@@ -140,14 +167,10 @@ class Scheduler:
 
     def _text(self, name: str) -> str:
         """The text that a function of the library writes."""
-        length, room = c_size_t(), (c_uint8 * 1)()
         with self._lock:
-            status = run(name, self._handle, room, 0, byref(length))
-            if status == NO_ROOM:
-                room = (c_uint8 * length.value)()
-                status = run(name, self._handle, room, length.value, byref(length))
-            want(status)
-        return bytes(room)[: length.value].decode()
+            status, text = text_of(name, self._handle)
+        want(status)
+        return text.decode()
 
     def history_text(self) -> str:
         """The text of the history, as `mapsched run --history` prints it. Raises HandedOver where a part of it is no

@@ -11,9 +11,10 @@ import unittest
 from shutil import which
 
 import mapsched
-from mapsched import Admit, Ask, BadConfig, BadMap, BestEffort, Build, Built, Bursts, Change, Changed, Closed, Config
-from mapsched import Element, FlowBytes, HandedOver, Header, HistoryFull, NoHistory, Noted, Placed, Polled, Profile
-from mapsched import Refusal, Refused, Replace, Reserve, Reserved, Rest, Scheduler, Status, Taken, Unsolicited, Wake
+from mapsched import Admit, Ask, BadConfig, BadJournal, BadMap, BestEffort, Build, Built, Bursts, Change, Changed
+from mapsched import Closed, Config, Element, FlowBytes, HandedOver, Header, HistoryFull, NoHistory, Noted, Placed
+from mapsched import Polled, Profile, Refusal, Refused, Replace, Reserve, Reserved, Rest, Scheduler, Status, Taken
+from mapsched import Unsolicited, Wake
 from mapsched import library
 
 from . import tables
@@ -71,6 +72,104 @@ class BesideTheProgram(unittest.TestCase):
                                         (["audit", "--journal"], "".join(parts), f"legal {len(calls)}\n")]:
                 ran = subprocess.run([PROGRAM, *words], input=text, capture_output=True, encoding="utf-8")
                 self.assertEqual((ran.returncode, ran.stdout, ran.stderr), (0, wanted, ""), f"script {number}")
+
+
+def drawn_calls(number):
+    """The configuration and the calls of a drawn script, of which a scheduler may keep few."""
+    drawing = tables.drawing_of(number)
+    return Config(**{**drawing.config, "calls": 10000}), [mapsched.call_of(it) for it in drawing.play()[0]]
+
+
+def resumed(journal):
+    """The scheduler that goes on after a journal, which stands in a file."""
+    with tempfile.TemporaryDirectory() as room:
+        with open(f"{room}/journal", "wb") as it:
+            it.write(journal)
+        scheduler = Scheduler.resume(f"{room}/journal")
+        with open(f"{room}/journal", "rb") as it:
+            assert it.read() == journal, "the file was changed"
+    return scheduler
+
+
+class Resuming(unittest.TestCase):
+    def test_a_scheduler_that_goes_on_after_a_journal_answers_as_the_one_that_wrote_it(self):
+        for number in range(4000, 4020):
+            config, calls = drawn_calls(number)
+            half, replies = len(calls) // 2, []
+            with Scheduler(config) as whole:
+                replies += [whole.call(it) for it in calls[:half]]
+                journal = whole.opening() + whole.lines()
+                replies += [whole.call(it) for it in calls[half:]]
+                wanted = whole.opening() + whole.lines()
+            for torn in ("", '{"', wanted[len(journal) : -1].partition("\n")[0]):
+                with resumed((journal + torn).encode()) as after:
+                    self.assertEqual((len(after), after.kept_from), (half, half))
+                    self.assertEqual(after.journal_bytes, len(journal))
+                    self.assertRaises(HandedOver, after.history_text)
+                    self.assertEqual([after.call(it) for it in calls[half:]], replies[half:], f"script {number}")
+                    self.assertEqual(journal + after.lines(), wanted)
+            self.assertIsNone(Scheduler(config).journal_bytes)
+
+    def test_a_journal_that_is_wrong_has_its_line(self):
+        with Scheduler(CONFIG) as scheduler:
+            for now in (760, 800, 840):
+                scheduler.call(Build(now))
+            opening, lines = scheduler.opening(), scheduler.lines().splitlines(True)
+        other, late = opening.replace('"ticks":4', '"ticks":3'), lines[1].replace('"ack":800', '"ack":801')
+        self.assertNotEqual((other, late), (opening, lines[1]))
+        for journal, line, status in [
+            ("", 0, 11), (opening[:-1], 0, 11), (lines[0], 0, 11), (other, 0, 11), (opening + opening, 1, 11),
+            (opening + lines[0] + "\n" + lines[1], 2, 11), (opening + lines[0] + " " * 65537 + "\n", 2, 11),
+            (opening + lines[0] + late + "\n", 2, 8), (opening + lines[1], 1, 8),
+        ]:
+            with self.assertRaises(BadJournal) as raised:
+                resumed(journal.encode())
+            self.assertEqual((raised.exception.line, raised.exception.status), (line, status), journal[:200])
+            self.assertEqual(str(raised.exception), f"bad journal at {line}")
+        self.assertRaises(FileNotFoundError, Scheduler.resume, "/no/such/journal")
+
+    @unittest.skipUnless(PROGRAM, "MAPSCHED_PROGRAM names no program")
+    def test_the_journal_of_the_program_is_gone_on_after(self):
+        script = texts.read("examples/two_maps.json")
+        journal = subprocess.run([PROGRAM, "run", "--journal"], input=script.encode(), capture_output=True).stdout
+        with resumed(journal) as scheduler:
+            self.assertEqual(len(scheduler), 4)
+            self.assertIsInstance(scheduler.call(Build(840)), Built)
+            audited = subprocess.run([PROGRAM, "audit", "--journal"], input=journal + scheduler.lines().encode(),
+                                     capture_output=True)
+        self.assertEqual(audited.stdout, b"legal 5\n")
+
+
+class Words(unittest.TestCase):
+    def test_each_refusal_has_its_words(self):
+        for told, words in texts.rows("meanings_of_refusals"):
+            number, _, value = told.removeprefix("refused ").partition(" ")
+            refused = Refused(Refusal(int(number)), int(value.replace("#", "800")) if value else None)
+            self.assertEqual(refused.words, words.replace("#", "800"), told)
+
+    def test_the_library_has_the_version_of_the_module(self):
+        self.assertEqual(mapsched.library_version(), mapsched.__version__)
+
+
+class Frames(unittest.TestCase):
+    def test_the_frame_of_a_payload_is_the_one_of_the_checks(self):
+        payload, frame = bytes.fromhex(texts.PAYLOAD), bytes.fromhex(texts.FRAME)
+        self.assertEqual(mapsched.map_frame(payload), frame)
+        other = mapsched.map_frame(payload, bytes(range(6)))
+        self.assertEqual((len(other), other[12:18]), (len(frame), bytes(range(6))))
+        self.assertEqual(len(mapsched.map_frame(bytes(976))), 1006)
+        for wrong in ((bytes(977),), (payload, bytes(5)), (payload, bytes(7))):
+            self.assertRaises(ValueError, mapsched.map_frame, *wrong)
+
+    def test_a_request_frame_is_read(self):
+        asks, tells = bytes.fromhex("c4090011fd28"), bytes.fromhex("c80064001104b9")
+        self.assertEqual(mapsched.read_request(asks), mapsched.AsksMinislots(9, 17))
+        self.assertEqual(mapsched.read_request(tells), mapsched.TellsQueue(100, 17))
+        for frame, number, words in [(b"", 1, "length"), (tells[:6], 2, "kind"),
+                                     (bytes.fromhex("c4094011fd28"), 3, "sid"), (asks[:5] + b"\x29", 4, "hcs")]:
+            with self.assertRaises(mapsched.BadRequest) as raised:
+                mapsched.read_request(frame)
+            self.assertEqual((raised.exception.number, str(raised.exception)), (number, f"fault {number}: {words}"))
 
 
 class BesideAPlainScheduler(unittest.TestCase):

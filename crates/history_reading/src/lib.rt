@@ -3,4 +3,4 @@
 
 mod recorded;
 
-pub use recorded::{entry_in, read_history};
+pub use recorded::{entry_in, read_history, refusal_with};

@@ -19,6 +19,7 @@ use entry::entry_of;
 use json_fields::{config_in, member};
 use minislots::Config;
 pub use reading::read_history;
+pub use refusal::refusal_with;
 use sched_calls::Entry;
 use serde_json::Value;
 pub use single::entry_in;

@@ -4,5 +4,6 @@ pub mod AsPost
 pub mod Room
 pub mod Kept
 pub mod Reading
+pub mod GoingOn
 pub mod Elements
 pub mod Turned

@@ -7,6 +7,8 @@ pub mod Entry
 pub mod Answer
 pub mod Text
 pub mod Journal
+pub mod Words
+pub mod Resume
 pub mod Map
 pub mod Encode
 pub mod Frame

@@ -42,6 +42,8 @@ pub const HANDED_OVER: u32 = 18;
 pub const NO_TURN: u32 = 19;
 /// The scheduler of the workplace keeps its whole history.
 pub const KEEPS_ALL: u32 = 20;
+/// No status or no refusal has this number.
+pub const NO_WORDS: u32 = 21;
 /// To this the number of the first fault of a payload is added, from 1.
 pub const BAD_PAYLOAD: u32 = 200;
 /// To this the number of the first fault of a MAP that has no bytes is added, from 1.

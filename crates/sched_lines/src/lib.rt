@@ -17,5 +17,6 @@ pub use framed::put_framed_line;
 pub use hexadecimal::write_hex;
 pub use line::{put_number, refusal_number, refusal_value};
 pub use lines::LineBuffer;
+pub use meaning::put_meaning;
 pub use named::put_named;
 pub use unrecorded::tell_unrecorded;

@@ -100,9 +100,9 @@ fn put_digits<W: Sink>(writer: &mut W, number: Option<u64>) -> Result<(), TextFa
     }
 }
 
-// What a refusal means.
+/// What a refusal means, in words.
 #[tactic(auto, unfolding(crate::specs::Meaning::meaning_of))]
-fn put_meaning<W: Sink>(writer: &mut W, refusal: Refusal) -> Result<(), TextFault>
+pub fn put_meaning<W: Sink>(writer: &mut W, refusal: Refusal) -> Result<(), TextFault>
     ensures { Writes W.contents W.has_failed writer.old writer.new (meaning_of refusal) result }
 {
     put(writer, words_before(refusal))?;
