@@ -7,5 +7,6 @@ pub mod Turns
 pub mod Bar
 pub mod Bars
 pub mod Axis
+pub mod Patterns
 pub mod Head
 pub mod Picture

@@ -10,6 +10,7 @@ mod bar;
 mod flows;
 mod head;
 mod layout;
+mod patterns;
 mod picture;
 mod row;
 mod shade;
