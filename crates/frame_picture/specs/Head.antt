@@ -15,13 +15,13 @@ style_text =
     ++ (codes "stroke-width:.5px}\n.tick{stroke:#ccc}.sid{paint-order:stroke;stroke:#fff;stroke-width:3px;"
     ++ (codes "stroke-linejoin:round}\n.region{fill:url(#region)}.poll{fill:url(#poll)}.short{fill:url(#short)}"
     ++ (codes ".long{fill:#2f7fc1}\n.unsolicited{fill:url(#unsolicited)}.ranging{fill:url(#ranging)}.idle{fill:#fff}"
-    ++ codes ".other{fill:url(#other)}\n"))))
+    ++ codes ".other{fill:url(#other)}\n.left{font-size:11px}.gap{stroke:#c22;stroke-width:2;stroke-dasharray:6 4}\n"))))
 
 -- how they look where a reader has a dark screen
 unfoldable pub dark_text : List ℕ
 dark_text =
     codes "@media (prefers-color-scheme:dark){.ground,.idle{fill:#181818}text{fill:#ddd}.sid{fill:#000}"
-    ++ codes ".tick{stroke:#444}rect,.key{stroke:#999}}\n"
+    ++ codes ".tick{stroke:#444}rect,.key{stroke:#999}.gap{stroke:#f66}}\n"
 
 -- the ground under a picture of so many rows, as large as the picture
 unfoldable pub ground_text : ℕ → List ℕ
@@ -60,7 +60,7 @@ counts_text scale rows total =
     ++ (labelled (codes " of ") total
     ++ (labelled (codes ". A frame: ") scale.frame
     ++ (codes " minislots, " ++ (ms_text scale.ticks scale.frame
-    ++ codes " ms. The shade of a box goes by its SID.</text>\n"))))
+    ++ codes " ms. The shade of a box goes by its SID. A dashed line: frames left out.</text>\n"))))
 
 -- the head of a picture of so many rows, of so many frames in all
 unfoldable pub head_text : Scale → ℕ → ℕ → List ℕ

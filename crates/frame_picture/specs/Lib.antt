@@ -4,6 +4,7 @@ pub mod Shade
 pub mod Layout
 pub mod Frames
 pub mod Turns
+pub mod Along
 pub mod Bar
 pub mod Bars
 pub mod Axis

@@ -39,7 +39,10 @@ fn put_style<W: Sink>(lines: &mut TextBuffer, writer: &mut W) -> Result<(), Text
         writer,
         b".long{fill:#2f7fc1}\n.unsolicited{fill:url(#unsolicited)}.ranging{fill:url(#ranging)}.idle{fill:#fff}",
     )?;
-    lines.put(writer, b".other{fill:url(#other)}\n")
+    lines.put(
+        writer,
+        b".other{fill:url(#other)}\n.left{font-size:11px}.gap{stroke:#c22;stroke-width:2;stroke-dasharray:6 4}\n",
+    )
 }
 
 // How they look where a reader has a dark screen. These rules stand behind those that they change.
@@ -52,7 +55,10 @@ fn put_dark<W: Sink>(lines: &mut TextBuffer, writer: &mut W) -> Result<(), TextF
         writer,
         b"@media (prefers-color-scheme:dark){.ground,.idle{fill:#181818}text{fill:#ddd}.sid{fill:#000}",
     )?;
-    lines.put(writer, b".tick{stroke:#444}rect,.key{stroke:#999}}\n")
+    lines.put(
+        writer,
+        b".tick{stroke:#444}rect,.key{stroke:#999}.gap{stroke:#f66}}\n",
+    )
 }
 
 // The ground under a picture of so many rows.
@@ -164,7 +170,10 @@ fn put_counts<W: Sink>(
     put_labelled(lines, writer, b". A frame: ", frame)?;
     lines.put(writer, b" minislots, ")?;
     put_ms(lines, writer, scale.ticks, frame)?;
-    lines.put(writer, b" ms. The shade of a box goes by its SID.</text>\n")
+    lines.put(
+        writer,
+        b" ms. The shade of a box goes by its SID. A dashed line: frames left out.</text>\n",
+    )
 }
 
 // The head of a picture of so many rows, of so many frames in all.
