@@ -42,6 +42,20 @@ count-more h i d below =
     ∙ length-append (frames_of (take i h)) (frame_by (take i h) (map_by (get_or h i d).reply))
     ∙ ap (λ (k : ℕ). length (frames_of (take i h)) + k) (same_count (take i h) [] (map_by (get_or h i d).reply))
 
+-- the frames of one entry more
+pub frames_of-push : (h : List Entry) (e : Entry)
+    → frames_of (h ++ e ∷ []) ≡ frames_of h ++ frame_by h (map_by e.reply)
+frames_of-push h e =
+    frames_after-append [] h (e ∷ [])
+    ∙ ap (λ (fs : List Frame). frames_of h ++ fs) (append-nil (frame_by h (map_by e.reply)))
+
+-- how many they are
+pub count-push : (h : List Entry) (e : Entry)
+    → length (frames_of (h ++ e ∷ [])) ≡ length (frames_of h) + length (frame_by [] (map_by e.reply))
+count-push h e =
+    ap length (frames_of-push h e) ∙ length-append (frames_of h) (frame_by h (map_by e.reply))
+    ∙ ap (λ (k : ℕ). length (frames_of h) + k) (same_count h [] (map_by e.reply))
+
 -- an entry builds one frame at most
 pub one_frame : (before : List Entry) (o : Option FrameMap) → length (frame_by before o) ≤ 1
 one_frame before (Some m) = omega arith

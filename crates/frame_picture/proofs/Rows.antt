@@ -1,6 +1,6 @@
 -- The rows of a history's front.
 use Rattle.std.proofs.Common.{◌≡◌, ℕ, zero, suc, ◌+◌, ◌-◌, ◌<◌, ◌≤◌, ◌&&◌, Bool, false, List, [], ◌∷◌, ◌++◌}
-use Rattle.std.proofs.Common.{length, take, map, flat_map, get_or, Option, None, Some, refl, sym, ap, ◌∙◌, arith}
+use Rattle.std.proofs.Common.{length, map, flat_map, get_or, Option, None, Some, refl, sym, ap, ◌∙◌, arith}
 use Rattle.std.proofs.Common.{append-nil, codes, inl, inr, add-one, ltb}
 use Rattle.std.specs.Prelude.{if◌then◌else◌, IfSome}
 use Rattle.std.specs.List.{range_with_len, AllByRecursion}
@@ -27,13 +27,15 @@ use Rattle.frame_picture.specs.declared.layout.Scale.{Scale}
 use Rattle.frame_picture.specs.declared.span.Span.{Span}
 use Rattle.frame_picture.specs.declared.span.Place.{Place}
 use Rattle.frame_picture.specs.declared.bar.Bar.{Bar}
-use Rattle.frame_picture.specs.Frames.{Frame, frame_by, frames_of, frames_in, place_in, TellsUnsolicited}
+use Rattle.frame_picture.specs.declared.along.Along.{Along}
+use Rattle.frame_picture.specs.Along.{IsAlong, next_start, left_out}
+use Rattle.frame_picture.specs.Frames.{Frame, frame_by, frames_of, frames_in, place_in}
 use Rattle.frame_picture.specs.Frames.{is_unsolicited_after}
 use Rattle.frame_picture.specs.Bar.{bar_at, bar_with}
-use Rattle.frame_picture.specs.Bars.{bar_text}
-use Rattle.frame_picture.specs.Picture.{start_text, map_text, built_text, entry_text, row_text, rows_text}
+use Rattle.frame_picture.specs.Bars.{bar_text, bars_text}
+use Rattle.frame_picture.specs.Picture.{start_text, left_text, map_text, built_text, entry_text, row_text, rows_text}
 use Rattle.frame_picture.proofs.Drawn.{rows_text-append}
-use Rattle.frame_picture.proofs.FrameLists.{frames_of-more, frames_in-before, frames_in-behind, frames_in-more}
+use Rattle.frame_picture.proofs.FrameLists.{frames_of-push, frames_in-before, frames_in-behind, frames_in-more}
 use Rattle.frame_picture.proofs.FrameLists.{length-frames_in}
 
 -- the SIDs of a MAP are below 65536
@@ -59,17 +61,24 @@ same_bars units p q es bytes agree (suc n) =
     ∙ sym (map-range_with_len_more (bar_at units q es bytes) 0 n n (omega arith)) in
     rw add-one at step
 
--- the row of a MAP, where a list tells which flows are unsolicited
-pub same_row : (scale : Scale) (place : Place) (flows : List Bool) (h : List Entry) (m : FrameMap)
-    → IsWellFormed m.wire → TellsUnsolicited flows h
-    → map_text scale place (λ sid. get_or flows sid false) m ≡ map_text scale place (is_unsolicited_after h) m
+-- the row of a MAP, where it is known what the entries before it tell
+pub same_row : (scale : Scale) (place : Place) (along : Along) (h : List Entry) (m : FrameMap)
+    → IsWellFormed m.wire → IsAlong scale along h
+    → map_text scale place along.next (λ sid. get_or along.flows sid false) m
+    ≡ map_text scale place (next_start scale h) (is_unsolicited_after h) m
 unfolding map_text
-same_row scale place flows h m whole tells =
+same_row scale place along h m whole known =
+    let flows = along.flows in
+    let tells = known.flows in
     let es = m.wire.elements in
     let agree : (i : ℕ) → get_or flows (element_at es i).sid false ≡ is_unsolicited_after h (element_at es i).sid =
     λ i. tells (element_at es i).sid (small_sid es i whole.in_range) in
-    ap (λ (bs : List Bar). start_text scale.ticks place m.start ++ (flat_map bar_text bs ++ codes "</g>\n"))
+    ap (λ (bs : List Bar). start_text scale.ticks place m.start
+    ++ (left_text (left_out scale along.next m.start) ++ (flat_map bar_text bs ++ codes "</g>\n")))
     (same_bars scale.units (λ sid. get_or flows sid false) (is_unsolicited_after h) es m.bytes agree (front_length es))
+    ∙ ap (λ (next : ℕ). start_text scale.ticks place m.start
+    ++ (left_text (left_out scale next m.start)
+    ++ (bars_text scale.units (is_unsolicited_after h) es m.bytes ++ codes "</g>\n"))) known.next
 
 -- places with the same numbers are the same
 same_place : (p q : Place) → p.number ≡ q.number → p.row ≡ q.row → p ≡ q
@@ -106,13 +115,13 @@ place-inside span n reached room =
     ∙ ap (λ (b : Bool). if b then Some (record { number = n; row = n - span.from }) else None)
     (lt-ltb (n - span.from) span.count room)
 
-module _ (scale : Scale) (span : Span) (h : List Entry) (fs : List Frame) (flows : List Bool)
-    (tells : TellsUnsolicited flows h) where
+module _ (scale : Scale) (span : Span) (h : List Entry) (fs : List Frame) (along : Along)
+    (known : IsAlong scale along h) where
   abbrev rows : List Frame → List ℕ
   rows gs = rows_text scale span.from 0 (frames_in span gs)
 
   abbrev by_place : (o : Option Place) (m : FrameMap) → List ℕ
-  by_place o m = entry_text scale o (λ sid. get_or flows sid false) (replies.Built m)
+  by_place o m = entry_text scale o along.next (λ sid. get_or along.flows sid false) (replies.Built m)
 
   -- what the next MAP adds
   next_row : (m : FrameMap) → IsWellFormed m.wire
@@ -143,7 +152,7 @@ module _ (scale : Scale) (span : Span) (h : List Entry) (fs : List Frame) (flows
                   ∙ ap (λ (t : List ℕ). rows fs ++ t)
                   (append-nil (row_text scale at f)
                   ∙ ap (λ (p : Place). row_text scale p f) here
-                  ∙ sym (same_row scale place flows h m whole tells)
+                  ∙ sym (same_row scale place along h m whole known)
                   ∙ sym (ap (λ (o : Option Place). by_place o m) (place-inside span (length fs) reached room)))
               | inr past ↦
                   ap (rows_text scale span.from 0) (frames_in-behind span fs f reached past)
@@ -153,16 +162,16 @@ module _ (scale : Scale) (span : Span) (h : List Entry) (fs : List Frame) (flows
 
   -- an entry without a MAP has no row
   no_text : (o : Option Place) (reply : Reply) → map_by reply ≡ None
-      → entry_text scale o (λ sid. get_or flows sid false) reply ≡ []
+      → entry_text scale o along.next (λ sid. get_or along.flows sid false) reply ≡ []
   unfolding entry_text
   no_text None reply none = refl
   no_text (Some place) reply none =
-      ap (λ (m : Option FrameMap). built_text scale place (λ sid. get_or flows sid false) m) none
+      ap (λ (m : Option FrameMap). built_text scale place along.next (λ sid. get_or along.flows sid false) m) none
 
   -- and adds nothing
   still : (reply : Reply) → map_by reply ≡ None
       → rows (fs ++ frame_by h (map_by reply))
-      ≡ rows fs ++ entry_text scale (place_in span (length fs)) (λ sid. get_or flows sid false) reply
+      ≡ rows fs ++ entry_text scale (place_in span (length fs)) along.next (λ sid. get_or along.flows sid false) reply
   still reply none =
       ap (λ (o : Option FrameMap). rows (fs ++ frame_by h o)) none ∙ ap rows (append-nil fs)
       ∙ sym (ap (λ (t : List ℕ). rows fs ++ t) (no_text (place_in span (length fs)) reply none) ∙ append-nil (rows fs))
@@ -170,7 +179,7 @@ module _ (scale : Scale) (span : Span) (h : List Entry) (fs : List Frame) (flows
   -- what the next entry adds
   next_rows : (reply : Reply) → IsEncodable reply
       → rows (fs ++ frame_by h (map_by reply))
-      ≡ rows fs ++ entry_text scale (place_in span (length fs)) (λ sid. get_or flows sid false) reply
+      ≡ rows fs ++ entry_text scale (place_in span (length fs)) along.next (λ sid. get_or along.flows sid false) reply
   next_rows (replies.Built m) whole = next_row m whole
   next_rows (replies.Admitted placement) whole = still (replies.Admitted placement) refl
   next_rows (replies.Changed placement) whole = still (replies.Changed placement) refl
@@ -183,33 +192,29 @@ module _ (scale : Scale) (span : Span) (h : List Entry) (fs : List Frame) (flows
   next_rows (replies.Refused refusal) whole = still (replies.Refused refusal) refl
 
 -- the rows of one entry more
-pub rows_more : (a b c : Option (List ℕ)) (scale : Scale) (span : Span) (flows : List Bool) (h : List Entry) (i : ℕ)
-    (item : Entry) (number : ℕ) → i < length h → item ≡ get_or h i item → IsEncodable item.reply
-    → number ≡ length (frames_of (take i h)) → TellsUnsolicited flows (take i h)
-    → Appends a b (rows_text scale span.from 0 (frames_in span (frames_of (take i h))))
-    → Appends b c (entry_text scale (place_in span number) (λ sid. get_or flows sid false) item.reply)
-    → Appends a c (rows_text scale span.from 0 (frames_in span (frames_of (take (i + 1) h))))
-rows_more a b c scale span flows h i item number below item_is whole is tells before one =
-    let front = take i h in
-    let fs = frames_of front in
-    let next = next_rows scale span front fs flows tells item.reply whole in
-    let all : rows_text scale span.from 0 (frames_in span (frames_of (take (i + 1) h)))
+pub rows_more : (a b c : Option (List ℕ)) (scale : Scale) (span : Span) (along : Along) (h longer : List Entry)
+    (e : Entry) → longer ≡ h ++ e ∷ [] → IsEncodable e.reply → IsAlong scale along h
+    → Appends a b (rows_text scale span.from 0 (frames_in span (frames_of h)))
+    → Appends b c (entry_text scale (place_in span along.number) along.next (λ sid. get_or along.flows sid false) e.reply)
+    → Appends a c (rows_text scale span.from 0 (frames_in span (frames_of longer)))
+rows_more a b c scale span along h longer e is whole known before one =
+    let fs = frames_of h in
+    let next = next_rows scale span h fs along known e.reply whole in
+    let all : rows_text scale span.from 0 (frames_in span (frames_of longer))
     ≡ rows_text scale span.from 0 (frames_in span fs)
-    ++ entry_text scale (place_in span number) (λ sid. get_or flows sid false) item.reply =
-    ap (λ (gs : List Frame). rows_text scale span.from 0 (frames_in span gs)) (frames_of-more h i item below)
-    ∙ ap (λ (e : Entry). rows_text scale span.from 0 (frames_in span (fs ++ frame_by front (map_by e.reply))))
-    (sym item_is)
+    ++ entry_text scale (place_in span along.number) along.next (λ sid. get_or along.flows sid false) e.reply =
+    ap (λ (gs : List Frame). rows_text scale span.from 0 (frames_in span gs)) (ap frames_of is ∙ frames_of-push h e)
     ∙ next
     ∙ ap (λ (k : ℕ). rows_text scale span.from 0 (frames_in span fs)
-    ++ entry_text scale (place_in span k) (λ sid. get_or flows sid false) item.reply) (sym is) in
+    ++ entry_text scale (place_in span k) along.next (λ sid. get_or along.flows sid false) e.reply) (sym known.number) in
     rw all (Appends-trans a b c (rows_text scale span.from 0 (frames_in span fs))
-    (entry_text scale (place_in span number) (λ sid. get_or flows sid false) item.reply) before one)
+    (entry_text scale (place_in span along.number) along.next (λ sid. get_or along.flows sid false) e.reply) before one)
 
--- a row whose number is at most a small one
-pub row_within : (o : Option Place) (n : ℕ) → n ≤ MAX_ENTRIES → IfSome o (λ p. p.row ≤ n)
+-- a row whose frame has a number near that of the first one
+pub row_within : (o : Option Place) (n from : ℕ) → n ≤ from + MAX_ENTRIES → IfSome o (λ p. p.row + from ≡ n)
     → IfSome o (λ p. p.row ≤ MAX_ENTRIES)
-row_within None n few near = tt
-row_within (Some p) n few near = omega (arith, few, near)
+row_within None n from few near = tt
+row_within (Some p) n from few near = omega (arith, few, near)
 
 -- each entry of a history whose MAPs have bytes
 pub whole_at : (h : List Entry) (i : ℕ) (d : Entry) → AllByRecursion (λ e. IsEncodable e.reply) h → i < length h

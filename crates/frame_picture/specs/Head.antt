@@ -5,55 +5,47 @@ use Rattle.frame_picture.specs.Labelled.{labelled}
 use Rattle.frame_picture.specs.Time.{ms_text}
 use Rattle.frame_picture.specs.Shade.{shade_rules}
 use Rattle.frame_picture.specs.Layout.{depth_of}
+use Rattle.frame_picture.specs.Patterns.{patterns_text}
 
 -- how the parts of a picture look
 unfoldable pub style_text : List ℕ
 style_text =
-    codes "' font-family='sans-serif' font-size='12' style='background:#fff'>\n<style>.head{font-size:14px}"
+    codes "' font-family='sans-serif' font-size='12'>\n<style>.head{font-size:14px}"
     ++ (codes ".start,.at{font-size:11px;text-anchor:middle}.start{text-anchor:end}rect,.key{stroke:#333;"
     ++ (codes "stroke-width:.5px}\n.tick{stroke:#ccc}.sid{paint-order:stroke;stroke:#fff;stroke-width:3px;"
     ++ (codes "stroke-linejoin:round}\n.region{fill:url(#region)}.poll{fill:url(#poll)}.short{fill:url(#short)}"
-    ++ codes ".long{fill:#2f7fc1}\n.unsolicited{fill:url(#unsolicited)}.idle{fill:#fff}.other{fill:url(#other)}\n")))
+    ++ (codes ".long{fill:#2f7fc1}\n.unsolicited{fill:url(#unsolicited)}.ranging{fill:url(#ranging)}.idle{fill:#fff}"
+    ++ codes ".other{fill:url(#other)}\n.left{font-size:11px}.gap{stroke:#c22;stroke-width:2;stroke-dasharray:6 4}\n"))))
 
--- the patterns of bars in which modems may ask
-unfoldable pub request_patterns : List ℕ
-request_patterns =
-    codes "</style>\n<defs><pattern id='region' width='6' height='6' patternUnits='userSpaceOnUse'>"
-    ++ (codes "<path fill='#eee' d='M0 0h6v6H0z'/><path fill='#555' d='M2 2h2v2H2z'/></pattern>\n"
-    ++ (codes "<pattern id='poll' width='8' height='8' patternUnits='userSpaceOnUse' patternTransform='rotate(45)'>"
-    ++ codes "<path fill='#ffd79a' d='M0 0h8v8H0z'/><path fill='#b85f00' d='M0 0h4v8H0z'/></pattern>\n"))
+-- how they look where a reader has a dark screen
+unfoldable pub dark_text : List ℕ
+dark_text =
+    codes "@media (prefers-color-scheme:dark){.ground,.idle{fill:#181818}text{fill:#ddd}.sid{fill:#000}"
+    ++ codes ".tick{stroke:#444}rect,.key{stroke:#999}.gap{stroke:#f66}}\n"
 
--- the pattern of short data grants
-unfoldable pub short_pattern : List ℕ
-short_pattern =
-    codes "<pattern id='short' width='6' height='6' patternUnits='userSpaceOnUse'>"
-    ++ codes "<path fill='#8fd9ba' d='M0 0h6v6H0z'/><path fill='#006b4b' d='M0 0h6v2H0z'/></pattern>\n"
-
--- the patterns of unsolicited grants and of what is none of these
-unfoldable pub other_patterns : List ℕ
-other_patterns =
-    codes "<pattern id='unsolicited' width='8' height='8' patternUnits='userSpaceOnUse'>"
-    ++ (codes "<path fill='#eaa9cd' d='M0 0h8v8H0z'/><path stroke='#80154f' d='M0 0l8 8M8 0l-8 8'/></pattern>\n"
-    ++ (codes "<pattern id='other' width='6' height='6' patternUnits='userSpaceOnUse'>"
-    ++ codes "<path fill='#ddd' d='M0 0h6v6H0z'/><path fill='#555' d='M0 0h2v6H0z'/></pattern>\n"))
+-- the ground under a picture of so many rows, as large as the picture
+unfoldable pub ground_text : ℕ → List ℕ
+ground_text rows =
+    labelled (codes "</style>\n<path class='ground' fill='#fff' d='M0 0h1220v") (depth_of rows) ++ codes "H0z'/>\n"
 
 -- what the looks are for of the minislots in which modems may ask, and of data grants
 unfoldable pub usual_legend : List ℕ
 usual_legend =
     codes "<g id='legend'><path class='key region' d='M-160 8h28v16h-28z'/>"
     ++ (codes "<text x='-124' y='21'>request region</text>\n"
-    ++ (codes "<path class='key poll' d='M4 8h28v16h-28z'/><text x='40' y='21'>poll of one modem</text>\n"
-    ++ (codes "<path class='key short' d='M168 8h28v16h-28z'/><text x='204' y='21'>short data grant</text>\n"
-    ++ codes "<path class='key long' d='M332 8h28v16h-28z'/><text x='368' y='21'>long data grant</text>\n")))
+    ++ (codes "<path class='key poll' d='M-12 8h28v16h-28z'/><text x='24' y='21'>poll of one modem</text>\n"
+    ++ (codes "<path class='key short' d='M136 8h28v16h-28z'/><text x='172' y='21'>short data grant</text>\n"
+    ++ codes "<path class='key long' d='M284 8h28v16h-28z'/><text x='320' y='21'>long data grant</text>\n")))
 
 -- what the other looks are for, and what the numbers before a row are
 unfoldable pub other_legend : List ℕ
 other_legend =
-    codes "<path class='key unsolicited' d='M496 8h28v16h-28z'/><text x='532' y='21'>unsolicited grant</text>\n"
-    ++ (codes "<path class='key idle' d='M660 8h28v16h-28z'/><text x='696' y='21'>idle</text>\n"
-    ++ (codes "<path class='key other' d='M824 8h28v16h-28z'/><text x='860' y='21'>other</text>\n"
+    codes "<path class='key unsolicited' d='M432 8h28v16h-28z'/><text x='468' y='21'>unsolicited grant</text>\n"
+    ++ (codes "<path class='key ranging' d='M580 8h28v16h-28z'/><text x='616' y='21'>ranging</text>\n"
+    ++ (codes "<path class='key idle' d='M728 8h28v16h-28z'/><text x='764' y='21'>idle</text>\n"
+    ++ (codes "<path class='key other' d='M876 8h28v16h-28z'/><text x='912' y='21'>other</text>\n"
     ++ (codes "<text class='start' x='-128' y='46'>frame</text><text class='start' x='-8' y='46'>minislot</text>\n"
-    ++ codes "<text class='start' x='-8' y='59'>ms</text></g></defs>\n")))
+    ++ codes "<text class='start' x='-8' y='59'>ms</text></g></defs>\n"))))
 
 -- how large a picture of so many rows is
 unfoldable pub size_text : ℕ → List ℕ
@@ -68,10 +60,10 @@ counts_text scale rows total =
     ++ (labelled (codes " of ") total
     ++ (labelled (codes ". A frame: ") scale.frame
     ++ (codes " minislots, " ++ (ms_text scale.ticks scale.frame
-    ++ codes " ms. The shade of a box goes by its SID.</text>\n"))))
+    ++ codes " ms. The shade of a box goes by its SID. A dashed line: frames left out.</text>\n"))))
 
 -- the head of a picture of so many rows, of so many frames in all
 unfoldable pub head_text : Scale → ℕ → ℕ → List ℕ
 head_text scale rows total =
-    size_text rows ++ (style_text ++ (shade_rules ++ (request_patterns ++ (short_pattern ++ (other_patterns
+    size_text rows ++ (style_text ++ (shade_rules ++ (dark_text ++ (ground_text rows ++ (patterns_text
     ++ (usual_legend ++ (other_legend ++ counts_text scale rows total)))))))

@@ -9,7 +9,7 @@ slot_units frame = 1024 / frame
 
 -- the scale of a channel's frames
 abbrev pub scale_of : Config → Scale
-scale_of c = record { frame = c.frame; ticks = c.ticks; units = slot_units c.frame }
+scale_of c = record { start = c.start; frame = c.frame; ticks = c.ticks; units = slot_units c.frame }
 
 -- how many axes so many rows have: one at least
 abbrev pub axes_of : ℕ → ℕ

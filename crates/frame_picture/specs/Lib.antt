@@ -4,8 +4,10 @@ pub mod Shade
 pub mod Layout
 pub mod Frames
 pub mod Turns
+pub mod Along
 pub mod Bar
 pub mod Bars
 pub mod Axis
+pub mod Patterns
 pub mod Head
 pub mod Picture

@@ -1,5 +1,6 @@
 -- The picture of a history's frames.
-use Rattle.std.specs.Prelude.{ℕ, ◌+◌, Bool, List, [], ◌∷◌, ◌++◌, length, codes, Option, None, Some}
+use Rattle.std.specs.Prelude.{ℕ, ◌+◌, ◌==◌, Bool, List, [], ◌∷◌, ◌++◌, length, codes, Option, None, Some}
+use Rattle.std.specs.Prelude.{if◌then◌else◌}
 use Rattle.minislots.specs.declared.config.Config.{Config}
 use Rattle.sched_calls.specs.declared.frame_map.FrameMap.{FrameMap}
 use Rattle.sched_calls.specs.declared.reply.Entry.{Entry}
@@ -12,6 +13,7 @@ use Rattle.frame_picture.specs.Labelled.{labelled}
 use Rattle.frame_picture.specs.Time.{ms_text}
 use Rattle.frame_picture.specs.Layout.{scale_of, row_top}
 use Rattle.frame_picture.specs.Frames.{Frame, is_unsolicited_after, frames_of, frames_in}
+use Rattle.frame_picture.specs.Along.{next_start, left_out}
 use Rattle.frame_picture.specs.Bars.{bars_text}
 use Rattle.frame_picture.specs.Axis.{axes_text}
 use Rattle.frame_picture.specs.Head.{head_text}
@@ -24,25 +26,35 @@ start_text ticks place start =
     ++ (labelled (codes "</text><text class='start' x='-8' y='9'>") start
     ++ (codes "</text><text class='start' x='-8' y='21'>" ++ (ms_text ticks start ++ codes " ms</text>\n"))))
 
--- the row of a MAP, with the bar of each of its allocations, where these SIDs' flows are unsolicited
-unfoldable pub map_text : Scale → Place → (ℕ → Bool) → FrameMap → List ℕ
-map_text scale place unsolicited m =
+-- the mark of so many frames that were left out, above the row of the next one
+unfoldable pub left_text : ℕ → List ℕ
+left_text left =
+    if left == 0 then []
+    else
+    labelled (codes "<text class='left' x='-172' y='0'>left out: ") left
+    ++ codes "</text><path class='gap' d='M-72-4H1024'/>\n"
+
+-- the row of a MAP, with the frames that were left out before it where the next one could start there, and with the bar
+-- of each of its allocations, where these SIDs' flows are unsolicited
+unfoldable pub map_text : Scale → Place → ℕ → (ℕ → Bool) → FrameMap → List ℕ
+map_text scale place next unsolicited m =
     start_text scale.ticks place m.start
-    ++ (bars_text scale.units unsolicited m.wire.elements m.bytes ++ codes "</g>\n")
+    ++ (left_text (left_out scale next m.start)
+    ++ (bars_text scale.units unsolicited m.wire.elements m.bytes ++ codes "</g>\n"))
 
 -- the row of a MAP, if there is one
-abbrev pub built_text : Scale → Place → (ℕ → Bool) → Option FrameMap → List ℕ
-built_text scale place unsolicited None = []
-built_text scale place unsolicited (Some m) = map_text scale place unsolicited m
+abbrev pub built_text : Scale → Place → ℕ → (ℕ → Bool) → Option FrameMap → List ℕ
+built_text scale place next unsolicited None = []
+built_text scale place next unsolicited (Some m) = map_text scale place next unsolicited m
 
 -- the row of the MAP that a reply built, if it did and has a place
-unfoldable pub entry_text : Scale → Option Place → (ℕ → Bool) → Reply → List ℕ
-entry_text scale None unsolicited reply = []
-entry_text scale (Some place) unsolicited reply = built_text scale place unsolicited (map_by reply)
+unfoldable pub entry_text : Scale → Option Place → ℕ → (ℕ → Bool) → Reply → List ℕ
+entry_text scale None next unsolicited reply = []
+entry_text scale (Some place) next unsolicited reply = built_text scale place next unsolicited (map_by reply)
 
 -- the row of a frame: an unsolicited flow is one that was so before the MAP
 abbrev pub row_text : Scale → Place → Frame → List ℕ
-row_text scale place f = map_text scale place (is_unsolicited_after f.before) f.built
+row_text scale place f = map_text scale place (next_start scale f.before) (is_unsolicited_after f.before) f.built
 
 -- the rows of frames, the first of which has this row, and this number more than that
 abbrev pub rows_text : Scale → ℕ → ℕ → List Frame → List ℕ

@@ -2,11 +2,12 @@
 
 ghost use Rattle.std.specs.Prelude.{◌≤◌};
 ghost use Rattle.sched_calls.specs.declared.reply.TheConstants.{MAX_ENTRIES};
-ghost use Rattle.frame_picture.specs.Head.{style_text, request_patterns, short_pattern, other_patterns};
-ghost use Rattle.frame_picture.specs.Head.{usual_legend, other_legend, size_text, counts_text, head_text};
+ghost use Rattle.frame_picture.specs.Head.{style_text, dark_text, ground_text, usual_legend, other_legend};
+ghost use Rattle.frame_picture.specs.Head.{size_text, counts_text, head_text};
 ghost use Rattle.text_stream.specs.Writing.{Puts};
 
 use crate::layout::{Scale, depth_of};
+use crate::patterns::put_patterns;
 use crate::shade::put_shade_rules;
 use crate::text::put_labelled;
 use crate::time::put_ms;
@@ -20,7 +21,7 @@ fn put_style<W: Sink>(lines: &mut TextBuffer, writer: &mut W) -> Result<(), Text
 {
     lines.put(
         writer,
-        b"' font-family='sans-serif' font-size='12' style='background:#fff'>\n<style>.head{font-size:14px}",
+        b"' font-family='sans-serif' font-size='12'>\n<style>.head{font-size:14px}",
     )?;
     lines.put(
         writer,
@@ -36,72 +37,44 @@ fn put_style<W: Sink>(lines: &mut TextBuffer, writer: &mut W) -> Result<(), Text
     )?;
     lines.put(
         writer,
-        b".long{fill:#2f7fc1}\n.unsolicited{fill:url(#unsolicited)}.idle{fill:#fff}.other{fill:url(#other)}\n",
+        b".long{fill:#2f7fc1}\n.unsolicited{fill:url(#unsolicited)}.ranging{fill:url(#ranging)}.idle{fill:#fff}",
+    )?;
+    lines.put(
+        writer,
+        b".other{fill:url(#other)}\n.left{font-size:11px}.gap{stroke:#c22;stroke-width:2;stroke-dasharray:6 4}\n",
     )
 }
 
-// The patterns of bars in which modems may ask.
-#[tactic(auto, unfolding(crate::specs::Head::request_patterns))]
-fn put_request_patterns<W: Sink>(lines: &mut TextBuffer, writer: &mut W) -> Result<(), TextFault>
+// How they look where a reader has a dark screen. These rules stand behind those that they change.
+#[tactic(auto, unfolding(crate::specs::Head::dark_text))]
+fn put_dark<W: Sink>(lines: &mut TextBuffer, writer: &mut W) -> Result<(), TextFault>
     ensures { Puts W.contents W.has_failed writer.old writer.new lines.old lines.new
-        (request_patterns) result }
+        (dark_text) result }
 {
     lines.put(
         writer,
-        b"</style>\n<defs><pattern id='region' width='6' height='6' patternUnits='userSpaceOnUse'>",
+        b"@media (prefers-color-scheme:dark){.ground,.idle{fill:#181818}text{fill:#ddd}.sid{fill:#000}",
     )?;
     lines.put(
         writer,
-        b"<path fill='#eee' d='M0 0h6v6H0z'/><path fill='#555' d='M2 2h2v2H2z'/></pattern>\n",
-    )?;
-    lines.put(
-        writer,
-        b"<pattern id='poll' width='8' height='8' patternUnits='userSpaceOnUse' patternTransform='rotate(45)'>",
-    )?;
-    lines.put(
-        writer,
-        b"<path fill='#ffd79a' d='M0 0h8v8H0z'/><path fill='#b85f00' d='M0 0h4v8H0z'/></pattern>\n",
+        b".tick{stroke:#444}rect,.key{stroke:#999}.gap{stroke:#f66}}\n",
     )
 }
 
-// The pattern of short data grants.
-#[tactic(auto, unfolding(crate::specs::Head::short_pattern))]
-fn put_short_pattern<W: Sink>(lines: &mut TextBuffer, writer: &mut W) -> Result<(), TextFault>
+// The ground under a picture of so many rows.
+#[tactic(auto, unfolding(crate::specs::Head::ground_text))]
+fn put_ground<W: Sink>(lines: &mut TextBuffer, writer: &mut W, rows: u64) -> Result<(), TextFault>
+    requires { rows ≤ MAX_ENTRIES }
     ensures { Puts W.contents W.has_failed writer.old writer.new lines.old lines.new
-        (short_pattern) result }
+        (ground_text rows) result }
 {
-    lines.put(
+    put_labelled(
+        lines,
         writer,
-        b"<pattern id='short' width='6' height='6' patternUnits='userSpaceOnUse'>",
+        b"</style>\n<path class='ground' fill='#fff' d='M0 0h1220v",
+        depth_of(rows),
     )?;
-    lines.put(
-        writer,
-        b"<path fill='#8fd9ba' d='M0 0h6v6H0z'/><path fill='#006b4b' d='M0 0h6v2H0z'/></pattern>\n",
-    )
-}
-
-// The patterns of unsolicited grants and of what is none of these.
-#[tactic(auto, unfolding(crate::specs::Head::other_patterns))]
-fn put_other_patterns<W: Sink>(lines: &mut TextBuffer, writer: &mut W) -> Result<(), TextFault>
-    ensures { Puts W.contents W.has_failed writer.old writer.new lines.old lines.new
-        (other_patterns) result }
-{
-    lines.put(
-        writer,
-        b"<pattern id='unsolicited' width='8' height='8' patternUnits='userSpaceOnUse'>",
-    )?;
-    lines.put(
-        writer,
-        b"<path fill='#eaa9cd' d='M0 0h8v8H0z'/><path stroke='#80154f' d='M0 0l8 8M8 0l-8 8'/></pattern>\n",
-    )?;
-    lines.put(
-        writer,
-        b"<pattern id='other' width='6' height='6' patternUnits='userSpaceOnUse'>",
-    )?;
-    lines.put(
-        writer,
-        b"<path fill='#ddd' d='M0 0h6v6H0z'/><path fill='#555' d='M0 0h2v6H0z'/></pattern>\n",
-    )
+    lines.put(writer, b"H0z'/>\n")
 }
 
 // What the looks are for of the minislots in which modems may ask, and of data grants. Each axis shows the legend.
@@ -117,15 +90,15 @@ fn put_usual_legend<W: Sink>(lines: &mut TextBuffer, writer: &mut W) -> Result<(
     lines.put(writer, b"<text x='-124' y='21'>request region</text>\n")?;
     lines.put(
         writer,
-        b"<path class='key poll' d='M4 8h28v16h-28z'/><text x='40' y='21'>poll of one modem</text>\n",
+        b"<path class='key poll' d='M-12 8h28v16h-28z'/><text x='24' y='21'>poll of one modem</text>\n",
     )?;
     lines.put(
         writer,
-        b"<path class='key short' d='M168 8h28v16h-28z'/><text x='204' y='21'>short data grant</text>\n",
+        b"<path class='key short' d='M136 8h28v16h-28z'/><text x='172' y='21'>short data grant</text>\n",
     )?;
     lines.put(
         writer,
-        b"<path class='key long' d='M332 8h28v16h-28z'/><text x='368' y='21'>long data grant</text>\n",
+        b"<path class='key long' d='M284 8h28v16h-28z'/><text x='320' y='21'>long data grant</text>\n",
     )
 }
 
@@ -137,15 +110,19 @@ fn put_other_legend<W: Sink>(lines: &mut TextBuffer, writer: &mut W) -> Result<(
 {
     lines.put(
         writer,
-        b"<path class='key unsolicited' d='M496 8h28v16h-28z'/><text x='532' y='21'>unsolicited grant</text>\n",
+        b"<path class='key unsolicited' d='M432 8h28v16h-28z'/><text x='468' y='21'>unsolicited grant</text>\n",
     )?;
     lines.put(
         writer,
-        b"<path class='key idle' d='M660 8h28v16h-28z'/><text x='696' y='21'>idle</text>\n",
+        b"<path class='key ranging' d='M580 8h28v16h-28z'/><text x='616' y='21'>ranging</text>\n",
     )?;
     lines.put(
         writer,
-        b"<path class='key other' d='M824 8h28v16h-28z'/><text x='860' y='21'>other</text>\n",
+        b"<path class='key idle' d='M728 8h28v16h-28z'/><text x='764' y='21'>idle</text>\n",
+    )?;
+    lines.put(
+        writer,
+        b"<path class='key other' d='M876 8h28v16h-28z'/><text x='912' y='21'>other</text>\n",
     )?;
     lines.put(
         writer,
@@ -193,7 +170,10 @@ fn put_counts<W: Sink>(
     put_labelled(lines, writer, b". A frame: ", frame)?;
     lines.put(writer, b" minislots, ")?;
     put_ms(lines, writer, scale.ticks, frame)?;
-    lines.put(writer, b" ms. The shade of a box goes by its SID.</text>\n")
+    lines.put(
+        writer,
+        b" ms. The shade of a box goes by its SID. A dashed line: frames left out.</text>\n",
+    )
 }
 
 // The head of a picture of so many rows, of so many frames in all.
@@ -212,9 +192,9 @@ pub(crate) fn put_head<W: Sink>(
     put_size(lines, writer, rows)?;
     put_style(lines, writer)?;
     put_shade_rules(lines, writer)?;
-    put_request_patterns(lines, writer)?;
-    put_short_pattern(lines, writer)?;
-    put_other_patterns(lines, writer)?;
+    put_dark(lines, writer)?;
+    put_ground(lines, writer, rows)?;
+    put_patterns(lines, writer)?;
     put_usual_legend(lines, writer)?;
     put_other_legend(lines, writer)?;
     put_counts(lines, writer, scale, rows, total)

@@ -9,6 +9,8 @@ use minislots::Checked;
 /// How the frames of a channel are drawn.
 #[derive(Clone, Copy)]
 pub struct Scale {
+    /// The minislot at which the first frame starts.
+    pub start: u64,
     /// The minislots of a frame.
     pub frame: u32,
     /// The ticks of a minislot.
@@ -29,11 +31,13 @@ pub fn slot_units(frame: u32) -> u32
 // The scale of a channel's frames.
 pub(crate) fn scale_of(config: &Checked) -> Scale
     ensures value { result ≡ scale_of config.now }
+    ensures some { 0 < result.frame }
     ensures short { result.frame ≤ 1024 }
     ensures narrow { result.units ≤ 1024 }
 {
     let frame = config.frame();
     Scale {
+        start: config.start(),
         frame,
         ticks: config.ticks(),
         units: slot_units(frame),

@@ -5,11 +5,14 @@
 //! its title, and whose it is by its shade. All places are whole.
 #![tactic(auto)]
 
+mod along;
 mod axis;
 mod bar;
 mod flows;
 mod head;
 mod layout;
+mod left;
+mod patterns;
 mod picture;
 mod row;
 mod shade;

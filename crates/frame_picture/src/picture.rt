@@ -1,17 +1,16 @@
 //! The picture of a history's frames.
 
-ghost use Rattle.std.specs.Prelude.{◌≡◌, ◌+◌, ◌<◌, ◌≤◌, [], length, get_or, false, IfSome};
+ghost use Rattle.std.specs.Prelude.{◌≡◌, ◌<◌, ◌≤◌, length, get_or, false, IfSome};
 ghost use Rattle.std.specs.List.{AllByRecursion};
 ghost use Rattle.sched_calls.specs.declared.reply.TheConstants.{MAX_ENTRIES};
-ghost use Rattle.sched_history.specs.History.{map_by};
 ghost use Rattle.sched_calls.specs.Reply.{IsEncodable};
-ghost use Rattle.frame_picture.specs.Frames.{frame_by, frames_of, frames_in};
+ghost use Rattle.frame_picture.specs.Frames.{frames_of, frames_in};
 ghost use Rattle.frame_picture.specs.Layout.{scale_of};
 ghost use Rattle.frame_picture.specs.Picture.{entry_text, rows_text, frames_text, picture_text};
 ghost use Rattle.text_stream.specs.Writing.{Puts, Writes};
 
+use crate::along::{Along, along_none, count_map, go_along};
 use crate::axis::put_axes;
-use crate::flows::{Flows, no_flows, note};
 use crate::head::put_head;
 use crate::layout::{Scale, scale_of};
 use crate::row::put_row;
@@ -19,16 +18,6 @@ use crate::span::{Place, Span, place_in};
 use minislots::Checked;
 use sched_history::{Entry, Reply};
 use text_stream::{Sink, TextBuffer, TextFault};
-
-// How many MAPs an entry has.
-fn count_map(entry: &Entry) -> u64
-    ensures { result ≡ length (frame_by [] (map_by entry.now.reply)) }
-{
-    match entry.reply {
-        Reply::Built(_) => 1,
-        _ => 0,
-    }
-}
 
 // How many MAPs a history has.
 fn count_maps(entries: &[Entry]) -> u64
@@ -49,20 +38,22 @@ fn put_entry<W: Sink>(
     writer: &mut W,
     scale: Scale,
     place: Option<Place>,
-    flows: &Flows,
+    along: &Along,
     entry: &Entry,
 ) -> Result<(), TextFault>
     requires few { IfSome place (λ p. p.row ≤ MAX_ENTRIES) }
+    requires some { 0 < scale.frame }
     requires narrow { scale.units ≤ 1024 }
     requires whole { IsEncodable entry.now.reply }
     ensures { Puts W.contents W.has_failed writer.old writer.new lines.old lines.new
-        (entry_text scale place (λ sid. get_or flows.now sid false) entry.now.reply) result }
+        (entry_text scale place along.now.next (λ sid. get_or along.now.flows sid false) entry.now.reply)
+        result }
 {
     let Some(place) = place else {
         return Ok(());
     };
     match &entry.reply {
-        Reply::Built(map) => put_row(lines, writer, scale, place, flows, map),
+        Reply::Built(map) => put_row(lines, writer, scale, place, along, map),
         _ => Ok(()),
     }
 }
@@ -76,18 +67,17 @@ fn put_rows<W: Sink>(
     entries: &[Entry],
 ) -> Result<(), TextFault>
     requires few { length entries.now ≤ MAX_ENTRIES }
+    requires some { 0 < scale.frame }
     requires narrow { scale.units ≤ 1024 }
     requires whole { AllByRecursion (λ e. IsEncodable e.reply) entries.now }
     ensures { Puts W.contents W.has_failed writer.old writer.new lines.old lines.new
         (rows_text scale span.from 0 (frames_in span (frames_of entries.now))) result }
 {
-    let mut flows = no_flows();
-    let mut number = 0;
+    let mut along = along_none(scale);
     for entry in entries {
-        let place = place_in(span, number);
-        put_entry(lines, writer, scale, place, &flows, entry)?;
-        number += count_map(entry);
-        note(&mut flows, entry);
+        let place = place_in(span, along.number);
+        put_entry(lines, writer, scale, place, &along, entry)?;
+        go_along(&mut along, scale, entry);
     }
     Ok(())
 }
@@ -101,6 +91,7 @@ fn put_all<W: Sink>(
     span: Span,
     entries: &[Entry],
 ) -> Result<(), TextFault>
+    requires some { 0 < scale.frame }
     requires short { scale.frame ≤ 1024 }
     requires narrow { scale.units ≤ 1024 }
     requires few { length entries.now ≤ MAX_ENTRIES }
@@ -118,7 +109,8 @@ fn put_all<W: Sink>(
 }
 
 /// Writes the picture of a history's frames, on this channel: an axis with the legend above each 40 rows, and a row for
-/// each MAP in the span, in their order, with a bar for each of its allocations. Takes no memory, and only a failed
+/// each MAP in the span, in their order, with a bar for each of its allocations, and above it a mark where frames were
+/// left out. Takes no memory, and only a failed
 /// write ends it. The history need not be legal.
 pub fn put_picture<W: Sink>(
     writer: &mut W,

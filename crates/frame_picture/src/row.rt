@@ -1,6 +1,6 @@
 //! The row of a MAP, and its bars.
 
-ghost use Rattle.std.specs.Prelude.{◌≡◌, ◌≤◌, get_or, false};
+ghost use Rattle.std.specs.Prelude.{◌≡◌, ◌≤◌, ◌<◌, get_or, false};
 ghost use Rattle.map_codec.specs.Element.{nulls};
 ghost use Rattle.map_codec.specs.WireMap.{IsWellFormed};
 ghost use Rattle.sched_calls.specs.declared.reply.TheConstants.{MAX_ENTRIES};
@@ -8,9 +8,11 @@ ghost use Rattle.frame_picture.specs.Bars.{shade_text, box_text, title_text, nam
 ghost use Rattle.frame_picture.specs.Picture.{start_text, map_text};
 ghost use Rattle.text_stream.specs.Writing.{Puts};
 
+use crate::along::{Along, left_out};
 use crate::bar::{Bar, bar_with};
 use crate::flows::Flows;
 use crate::layout::{Scale, row_top};
+use crate::left::put_left;
 use crate::shade::shade_of;
 use crate::span::Place;
 use crate::text::put_labelled;
@@ -143,25 +145,27 @@ fn put_start<W: Sink>(
     lines.put(writer, b" ms</text>\n")
 }
 
-// The row of a MAP, where these flows are unsolicited.
+// The row of a MAP, behind what the entries before it tell.
 #[tactic(auto, unfolding(crate::specs::Picture::map_text))]
 pub(crate) fn put_row<W: Sink>(
     lines: &mut TextBuffer,
     writer: &mut W,
     scale: Scale,
     place: Place,
-    flows: &Flows,
+    along: &Along,
     map: &FrameMap,
 ) -> Result<(), TextFault>
     requires few { place.row ≤ MAX_ENTRIES }
     requires narrow { scale.units ≤ 1024 }
+    requires some { 0 < scale.frame }
     requires whole { IsWellFormed map.now.wire }
     ensures { Puts W.contents W.has_failed writer.old writer.new lines.old lines.new
-        (map_text scale place (λ sid. get_or flows.now sid false) map.now) result }
+        (map_text scale place along.now.next (λ sid. get_or along.now.flows sid false) map.now) result }
 {
     put_start(lines, writer, scale.ticks, place, map.start)?;
+    put_left(lines, writer, left_out(scale, along.next, map.start))?;
     let elements = map.wire.elements.as_slice();
     let bytes = map.bytes.as_slice();
-    put_bars(lines, writer, scale.units, flows, elements, bytes)?;
+    put_bars(lines, writer, scale.units, &along.flows, elements, bytes)?;
     lines.put(writer, b"</g>\n")
 }

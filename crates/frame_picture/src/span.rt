@@ -1,6 +1,6 @@
 //! Which frames are drawn, and where.
 
-ghost use Rattle.std.specs.Prelude.{◌≡◌, ◌<◌, ◌≤◌, IfSome};
+ghost use Rattle.std.specs.Prelude.{◌≡◌, ◌+◌, ◌<◌, ◌≤◌, IfSome};
 ghost use Rattle.frame_picture.specs.Frames.{place_in};
 
 /// Which of a history's frames are drawn: so many from one on, or as many as there are.
@@ -25,7 +25,7 @@ pub struct Place {
 #[tactic(auto, unfolding(crate::specs::Frames::place_in))]
 pub(crate) fn place_in(span: Span, number: u64) -> Option<Place>
     ensures value { result ≡ place_in span number }
-    ensures near { IfSome result (λ p. p.row ≤ number) }
+    ensures near { IfSome result (λ p. p.row + span.from ≡ number) }
 {
     if span.from <= number && number - span.from < span.count {
         Some(Place {

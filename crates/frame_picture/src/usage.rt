@@ -17,10 +17,9 @@ fn usage_look(usage: ElementUsage) -> &'static [u8]
         ElementUsage::ShortGrant | ElementUsage::AdvancedShortGrant => b"short",
         ElementUsage::LongGrant | ElementUsage::AdvancedLongGrant => b"long",
         ElementUsage::AdvancedUnsolicitedGrant => b"unsolicited",
+        ElementUsage::InitialMaintenance | ElementUsage::StationMaintenance => b"ranging",
         ElementUsage::Idle => b"idle",
         ElementUsage::RequestData
-        | ElementUsage::InitialMaintenance
-        | ElementUsage::StationMaintenance
         | ElementUsage::Null
         | ElementUsage::DataAcknowledge
         | ElementUsage::Reserved => b"other",

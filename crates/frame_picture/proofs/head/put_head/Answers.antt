@@ -9,8 +9,8 @@ returns g c =
     then_text _ _ _ _ _ _ _ _ _ c.in_ok-put_size.ensures
     (then_text _ _ _ _ _ _ _ _ _ c.in_ok-put_style.ensures
     (then_text _ _ _ _ _ _ _ _ _ c.in_ok-put_shade_rules.ensures
-    (then_text _ _ _ _ _ _ _ _ _ c.in_ok-put_request_patterns.ensures
-    (then_text _ _ _ _ _ _ _ _ _ c.in_ok-put_short_pattern.ensures
-    (then_text _ _ _ _ _ _ _ _ _ c.in_ok-put_other_patterns.ensures
+    (then_text _ _ _ _ _ _ _ _ _ c.in_ok-put_dark.ensures
+    (then_text _ _ _ _ _ _ _ _ _ c.in_ok-put_ground.ensures
+    (then_text _ _ _ _ _ _ _ _ _ c.in_ok-put_patterns.ensures
     (then_text _ _ _ _ _ _ _ _ _ c.in_ok-put_usual_legend.ensures
     (then_text _ _ _ _ _ _ _ _ _ c.in_ok-put_other_legend.ensures c.put_counts.ensures)))))))

@@ -9,4 +9,5 @@ returns g c =
     then_text _ _ _ _ _ _ _ _ _ c.in_ok-put.ensures
     (then_text _ _ _ _ _ _ _ _ _ c.in_ok-put-2.ensures
     (then_text _ _ _ _ _ _ _ _ _ c.in_ok-put-3.ensures
-    (then_text _ _ _ _ _ _ _ _ _ c.in_ok-put-4.ensures c.put-5.ensures)))
+    (then_text _ _ _ _ _ _ _ _ _ c.in_ok-put-4.ensures
+    (then_text _ _ _ _ _ _ _ _ _ c.in_ok-put-5.ensures c.put-6.ensures))))

@@ -12,7 +12,7 @@ overflow_add-maps c =
     c.loop-entry.invariant in
     let one = one_frame [] (map_by c.entry-item.result.reply) in
     let more : c.count_map-maps.result ≡ length (frame_by [] (map_by c.entry-item.result.reply)) =
-    c.count_map-maps.ensures in
+    c.count_map-maps.ensures.value in
     omega (arith, few, so_far, one, more, c.loop-entry-test.true)
 
 pub loop-entry-preserved : goal.loop-entry-preserved
@@ -21,7 +21,7 @@ loop-entry-preserved c =
     let i = c.loop-entry.entry-index in
     let so_far : c.loop-entry.maps ≡ length (frames_of (take i h)) = c.loop-entry.invariant in
     let more : c.count_map-maps.result ≡ length (frame_by [] (map_by c.entry-item.result.reply)) =
-    c.count_map-maps.ensures in
+    c.count_map-maps.ensures.value in
     let item : length (frame_by [] (map_by c.entry-item.result.reply))
     ≡ length (frame_by [] (map_by (get_or h i c.entry-item.result).reply)) =
     ap (λ e. length (frame_by [] (map_by e.reply))) c.entry-item.is in

@@ -1,16 +1,15 @@
 -- Rows, one after the other.
-use Rattle.std.proofs.Common.{◌≡◌, length, take}
+use Rattle.std.proofs.Common.{◌≡◌, take}
 use Rattle.std.specs.Io.KnownBytes.{Appends, append_known}
-use Rattle.frame_picture.specs.Frames.{frames_of, frames_in, TellsUnsolicited}
+use Rattle.frame_picture.specs.Along.{IsAlong}
+use Rattle.frame_picture.specs.Frames.{frames_of, frames_in}
 use Rattle.frame_picture.specs.Picture.{rows_text}
 use Rattle.frame_picture.proofs.picture.put_rows.Given as goal
 
--- the rows so far are written or wait, the next frame has the number of those so far, and it is known which flows are
--- unsolicited
+-- the rows so far are written or wait, and it is known what the entries so far tell
 abbrev pub invariant-loop-entry : goal.invariant-loop-entry
 invariant-loop-entry g l =
-    (l.number ≡ length (frames_of (take l.entry-index l.entries)))
-    × TellsUnsolicited l.flows (take l.entry-index l.entries)
+    IsAlong l.scale l.along (take l.entry-index l.entries)
     × Appends (append_known (g.W.Sink.contents l.initial.writer) l.initial.lines)
     (append_known (g.W.Sink.contents l.writer) l.lines)
     (rows_text l.scale l.span.from 0 (frames_in l.span (frames_of (take l.entry-index l.entries))))

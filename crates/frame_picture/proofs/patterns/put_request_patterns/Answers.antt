@@ -1,7 +1,7 @@
 -- Line by line.
-use Rattle.frame_picture.specs.Head.{request_patterns}
+use Rattle.frame_picture.specs.Patterns.{request_patterns}
 use Rattle.frame_picture.proofs.Drawn.{then_text}
-use Rattle.frame_picture.proofs.head.put_request_patterns.Goals as goal
+use Rattle.frame_picture.proofs.patterns.put_request_patterns.Goals as goal
 
 pub returns : goal.returns
 unfolding request_patterns

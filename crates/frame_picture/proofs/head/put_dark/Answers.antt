@@ -1,9 +1,9 @@
 -- Line by line.
-use Rattle.frame_picture.specs.Head.{short_pattern}
+use Rattle.frame_picture.specs.Head.{dark_text}
 use Rattle.frame_picture.proofs.Drawn.{then_text}
-use Rattle.frame_picture.proofs.head.put_short_pattern.Goals as goal
+use Rattle.frame_picture.proofs.head.put_dark.Goals as goal
 
 pub returns : goal.returns
-unfolding short_pattern
+unfolding dark_text
 returns g c =
     then_text _ _ _ _ _ _ _ _ _ c.in_ok-put.ensures c.put-2.ensures

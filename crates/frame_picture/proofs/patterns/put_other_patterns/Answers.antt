@@ -1,7 +1,7 @@
 -- Line by line.
-use Rattle.frame_picture.specs.Head.{other_patterns}
+use Rattle.frame_picture.specs.Patterns.{other_patterns}
 use Rattle.frame_picture.proofs.Drawn.{then_text}
-use Rattle.frame_picture.proofs.head.put_other_patterns.Goals as goal
+use Rattle.frame_picture.proofs.patterns.put_other_patterns.Goals as goal
 
 pub returns : goal.returns
 unfolding other_patterns
