@@ -119,8 +119,8 @@ class Wanted:
         for place, life in enumerate(told["lives"]):
             self.life(place, life)
 
-    def add(self, name, number, **labels):
-        self.samples[f"mapsched_{name}", frozenset((key, str(value)) for key, value in labels.items())] = number
+    def add(self, name, value, **labels):
+        self.samples[f"mapsched_{name}", frozenset((key, str(it)) for key, it in labels.items())] = value
 
     def add_time(self, name, minislots, **labels):
         self.add(name, minislots * self.minislot, **labels)
