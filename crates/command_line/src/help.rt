@@ -214,7 +214,8 @@ for. A grant to an unsolicited flow is drawn as such on every channel. The boxes
 a SID have a shade of their own: those of 64 SIDs in a row are all different. The
 SID is on a box where there is room, and pointing at the box shows the SID, the
 usage, the offset and the length in minislots, and how many bytes of requests it
-grants (0 where it grants none).
+grants (0 where it grants none). A dashed line above a row stands for frames that
+were skipped right before it, and `left out:` tells how many.
 
 --from 100 --count 40 draws the frames 100 to 139 alone, with their own numbers.
 
