@@ -219,9 +219,10 @@ were skipped right before it, and `left out:` tells how many.
 
 --from 100 --count 40 draws the frames 100 to 139 alone, with their own numbers.
 
-With --journal it reads a journal as `run --journal` prints it, of up to 16777216
-entries, and draws those before the first line that is wrong, which standard error
-names as with `pcap --journal`.
+With --journal it reads a journal as `run --journal` prints it, of any length where
+up to 16777216 entries stand from the first frame that is drawn to the last one, and
+draws those before the first line that is wrong, which standard error names as with
+`pcap --journal`.
 
 Exit statuses: 0, 1 an illegal journal, 2 for the command line, 3 for the input, 4
 for the machine.
