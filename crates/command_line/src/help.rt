@@ -215,13 +215,15 @@ for. A grant to an unsolicited flow is drawn as such on every channel. The boxes
 a SID have a shade of their own: those of 64 SIDs in a row are all different. The
 SID is on a box where there is room, and pointing at the box shows the SID, the
 usage, the offset and the length in minislots, and how many bytes of requests it
-grants (0 where it grants none).
+grants (0 where it grants none). A dashed line above a row stands for frames that
+were skipped right before it, and `left out:` tells how many.
 
 --from 100 --count 40 draws the frames 100 to 139 alone, with their own numbers.
 
-With --journal it reads a journal as `run --journal` prints it, of up to 16777216
-entries, and draws those before the first line that is wrong, which standard error
-names as with `pcap --journal`.
+With --journal it reads a journal as `run --journal` prints it, of any length where
+up to 16777216 entries stand from the first frame that is drawn to the last one, and
+draws those before the first line that is wrong, which standard error names as with
+`pcap --journal`.
 
 Exit statuses: 0, 1 an illegal journal, 2 for the command line, 3 for the input, 4
 for the machine.

@@ -1,5 +1,5 @@
 -- What the drawing of a journal reads and writes.
-use Rattle.std.specs.Prelude.{◌≡◌, ◌⊎◌, ℕ, ◌<◌, List, [], length, Option}
+use Rattle.std.specs.Prelude.{◌≡◌, ◌⊎◌, ℕ, List, [], Option}
 use Rattle.std.specs.Io.KnownBytes.{Appends}
 use Rattle.minislots.specs.declared.config.Config.{Config as Configuration}
 use Rattle.sched_calls.specs.declared.reply.Entry.{Entry}
@@ -15,8 +15,8 @@ use Rattle.journal_entries.specs.declared.entries.JournalEntries.{JournalEntries
 use Rattle.journal_entries.specs.Next.{HasGiven}
 use Rattle.journal_entries.specs.End.{EndsBehind}
 use Rattle.frame_picture.specs.declared.span.Span.{Span}
+use Rattle.frame_picture.specs.Part.{HasManyDrawn}
 use Rattle.frame_picture.specs.Picture.{picture_text}
-use Rattle.draw_command.specs.declared.journal.TheConstants.{MAX_DRAWN}
 
 -- These entries stand before the end of a journal, and the picture of their frames in the span was written
 pub record DrawnEntries (span : Span) (unread left before after : Option (List ℕ)) (end : EntriesEnd) : Type 0 where
@@ -37,29 +37,29 @@ abbrev pub DrawnJournal : Span → Option (List ℕ) → Option (List ℕ) → O
 DrawnJournal span unread left before after end =
     DrawnEntries span unread left before after end ⊎ DrawnNothing unread left before after end
 
--- The first lines of a journal stand for more entries than are drawn
-pub record HasTooManyDrawn (unread left : Option (List ℕ)) : Type 0 where
+-- The first lines of a journal stand for more entries than a picture may have
+pub record HasTooManyDrawn (span : Span) (unread left : Option (List ℕ)) : Type 0 where
   pub given : JournalEntries
   pub stand : HasGiven unread left given
-  pub many : MAX_DRAWN < length given.auditor.history
+  pub many : HasManyDrawn span given.auditor.history
 
 -- why the entries of a journal are not all taken
-abbrev pub StopsEntries : Option (List ℕ) → Option (List ℕ) → TextFault → Type 0
-StopsEntries unread left Input = StopsJournal unread left Input
-StopsEntries unread left TooLong = HasTooManyDrawn unread left ⊎ StopsJournal unread left TooLong
-StopsEntries unread left NotJson = ⊥
-StopsEntries unread left (Shape n) = ⊥
-StopsEntries unread left (Config field) = ⊥
-StopsEntries unread left Memory = Unit {0}
-StopsEntries unread left Output = ⊥
+abbrev pub StopsEntries : Span → Option (List ℕ) → Option (List ℕ) → TextFault → Type 0
+StopsEntries span unread left Input = StopsJournal unread left Input
+StopsEntries span unread left TooLong = HasTooManyDrawn span unread left ⊎ StopsJournal unread left TooLong
+StopsEntries span unread left NotJson = ⊥
+StopsEntries span unread left (Shape n) = ⊥
+StopsEntries span unread left (Config field) = ⊥
+StopsEntries span unread left Memory = Unit {0}
+StopsEntries span unread left Output = ⊥
 
 -- why the drawing of a journal ends; where memory runs out or a write fails nothing more is told
-abbrev pub StopsJournalDrawing : Option (List ℕ) → Option (List ℕ) → RunFault → Type 0
-StopsJournalDrawing unread left (Text Input) = StopsEntries unread left Input
-StopsJournalDrawing unread left (Text TooLong) = StopsEntries unread left TooLong
-StopsJournalDrawing unread left (Text NotJson) = ⊥
-StopsJournalDrawing unread left (Text (Shape n)) = ⊥
-StopsJournalDrawing unread left (Text (Config field)) = ⊥
-StopsJournalDrawing unread left (Text Memory) = Unit {0}
-StopsJournalDrawing unread left (Text Output) = Unit {0}
-StopsJournalDrawing unread left Threads = ⊥
+abbrev pub StopsJournalDrawing : Span → Option (List ℕ) → Option (List ℕ) → RunFault → Type 0
+StopsJournalDrawing span unread left (Text Input) = StopsEntries span unread left Input
+StopsJournalDrawing span unread left (Text TooLong) = StopsEntries span unread left TooLong
+StopsJournalDrawing span unread left (Text NotJson) = ⊥
+StopsJournalDrawing span unread left (Text (Shape n)) = ⊥
+StopsJournalDrawing span unread left (Text (Config field)) = ⊥
+StopsJournalDrawing span unread left (Text Memory) = Unit {0}
+StopsJournalDrawing span unread left (Text Output) = Unit {0}
+StopsJournalDrawing span unread left Threads = ⊥

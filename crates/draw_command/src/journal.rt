@@ -1,61 +1,62 @@
 //! The picture of a journal.
 
-ghost use Rattle.std.specs.Prelude.{◌≡◌, ◌≤◌, [], List, ℕ, Option, length, IfOk, IfErr};
-ghost use Rattle.std.specs.List.{AllByRecursion};
-ghost use Rattle.sched_calls.specs.Reply.{IsEncodable};
+ghost use Rattle.std.specs.Prelude.{◌≡◌, ◌≤◌, [], List, ℕ, Option, IfOk, OnOk, IfErr};
+ghost use Rattle.sched_calls.specs.declared.reply.TheConstants.{MAX_WHOLE_HISTORY};
+ghost use Rattle.frame_picture.specs.Part.{HasTaken};
 ghost use Rattle.text_stream.specs.Watched.{FailsBy};
 ghost use Rattle.text_stream.specs.RunFault.{TellsFailedRead, TellsFailedWrite, WritesLast};
 ghost use Rattle.journal_entries.specs.Next.{HasGiven};
 ghost use Rattle.journal_entries.specs.End.{EndsBehind};
-ghost use Rattle.draw_command.specs.declared.journal.TheConstants.{MAX_DRAWN};
 ghost use Rattle.draw_command.specs.Journal.{DrawnEntries, DrawnJournal, StopsEntries, StopsJournalDrawing};
 
-use frame_picture::{Span, put_picture};
+use frame_picture::{Part, Span, put_part};
 use journal_entries::{EntriesEnd, JournalEntries, Next};
 use minislots::Checked;
-use sched_history::Entry;
+use sched_history::MAX_WHOLE_HISTORY;
 use std::alloc::Global;
 use text_stream::{RunFault, Sink, Source, TextFault};
 
-/// The most entries that are drawn.
-pub const MAX_DRAWN: usize = 16_777_216;
-
-// The entries of a journal, up to what ends it.
+// Takes the entries of a journal, up to what ends it.
 fn take_entries<R: Source>(
-    alloc: Global,
+    part: &mut Part,
     entries: &mut JournalEntries,
     reader: &mut R,
-) -> Result<(Vec<Entry>, EntriesEnd), TextFault>
+) -> Result<EntriesEnd, TextFault>
     requires none { entries.old.auditor.history ≡ [] }
+    requires fresh { HasTaken part.old [] }
 
-    ensures takes { IfOk result (λ r. (before : Option (List ℕ)) →
+    ensures takes { IfOk result (λ end. (before : Option (List ℕ)) →
         HasGiven before (R.remaining reader.old) entries.old →
-        EndsBehind before (R.remaining reader.new) entries.old.auditor.config r.0.items r.1) }
-    ensures whole { IfOk result (λ r. AllByRecursion (λ e. IsEncodable e.reply) r.0.items) }
-    ensures few { IfOk result (λ r. length r.0.items ≤ MAX_DRAWN) }
+        EndsBehind before (R.remaining reader.new)
+        entries.old.auditor.config entries.new.auditor.history end) }
+    ensures taken { OnOk result (HasTaken part.new entries.new.auditor.history) }
+    ensures near { OnOk result (part.new.total ≤ MAX_WHOLE_HISTORY) }
+    ensures scale { OnOk result (part.new.scale ≡ part.old.scale) }
+    ensures span { OnOk result (part.new.span ≡ part.old.span) }
     ensures stops { IfErr result (λ fault. (before : Option (List ℕ)) →
         HasGiven before (R.remaining reader.old) entries.old →
-        StopsEntries before (R.remaining reader.new) fault) }
+        StopsEntries part.old.span before (R.remaining reader.new) fault) }
     ensures failed { FailsBy TextFault.Input result
         (R.has_failed reader.old) (R.has_failed reader.new) }
 {
-    let mut taken = Vec::new(alloc);
-    for _ in 0..=MAX_DRAWN {
+    for _ in 0..=MAX_WHOLE_HISTORY {
         match entries.next(reader) {
-            Ok(Next::Entry(entry)) => match taken.push(entry) {
+            Ok(Next::Entry(entry)) => match part.take(entry) {
                 Ok(()) => {}
-                Err(_) => return Err(TextFault::Memory),
+                Err(fault) => return Err(fault),
             },
-            Ok(Next::Illegal(place)) => return Ok((taken, EntriesEnd::Illegal(place))),
-            Ok(Next::Bad(line)) => return Ok((taken, EntriesEnd::Bad(line))),
-            Ok(Next::End(torn)) => return Ok((taken, EntriesEnd::Legal(torn))),
+            Ok(Next::Illegal(place)) => return Ok(EntriesEnd::Illegal(place)),
+            Ok(Next::Bad(line)) => return Ok(EntriesEnd::Bad(line)),
+            Ok(Next::End(torn)) => return Ok(EntriesEnd::Legal(torn)),
             Err(fault) => return Err(fault),
         }
     }
+    // Fewer entries are given than there were turns.
+    let _most = entries.auditor.taken();
     Err(TextFault::TooLong)
 }
 
-// Draws the entries that come, once all are there.
+// Draws the entries that come, once all have come.
 fn draw_entries<R: Source, W: Sink>(
     alloc: Global,
     mut entries: JournalEntries,
@@ -73,7 +74,7 @@ fn draw_entries<R: Source, W: Sink>(
         (W.contents writer.old) (W.contents writer.new) end) }
     ensures stops { IfErr result (λ fault. (before : Option (List ℕ)) →
         HasGiven before (R.remaining reader.old) entries →
-        StopsJournalDrawing before (R.remaining reader.new) fault) }
+        StopsJournalDrawing span before (R.remaining reader.new) fault) }
     ensures quiet { WritesLast result writer.old writer.new }
     ensures failed_read { TellsFailedRead result
         (R.has_failed reader.old) (R.has_failed reader.new) }
@@ -81,18 +82,20 @@ fn draw_entries<R: Source, W: Sink>(
         HasGiven before (R.remaining reader.old) entries →
         TellsFailedWrite result (W.has_failed writer.old) (W.has_failed writer.new) }
 {
-    let (taken, end) = match take_entries(alloc, &mut entries, reader) {
-        Ok(all) => all,
+    let mut part = Part::none(alloc, config, span);
+    let end = match take_entries(&mut part, &mut entries, reader) {
+        Ok(end) => end,
         Err(fault) => return Err(RunFault::Text(fault)),
     };
-    put_picture(writer, config, span, &taken)?;
+    put_part(writer, config, &mut part)?;
     Ok(end)
 }
 
 /// Reads a journal and writes the picture of its frames in this span in SVG. An entry that may not follow those before
 /// it ends the journal, and so does a line that stands for nothing: what stands before is drawn. Where the first line
-/// is no lawful configuration nothing is drawn. A picture has at most 16777216 entries, which are kept until it is
-/// written; and nothing is written before another fault than one of output.
+/// is no lawful configuration nothing is drawn. The journal may have any length: what is kept until the picture is
+/// written are the entries from the first frame in the span to the last one, 16777216 at most; and nothing is written
+/// before another fault than one of output.
 pub fn draw_journal<R: Source, W: Sink>(
     alloc: Global,
     reader: &mut R,
@@ -105,7 +108,7 @@ pub fn draw_journal<R: Source, W: Sink>(
         (W.contents writer.old) (W.contents writer.new)) }
 
     // Each fault comes under its own condition.
-    ensures stops { IfErr result (StopsJournalDrawing
+    ensures stops { IfErr result (StopsJournalDrawing span
         (R.remaining reader.old) (R.remaining reader.new)) }
     ensures quiet { WritesLast result writer.old writer.new }
 

@@ -9,5 +9,5 @@ mod recorded;
 
 pub use draw::draw_script;
 pub use input::{draw_input, draw_journal_input};
-pub use journal::{MAX_DRAWN, draw_journal};
+pub use journal::draw_journal;
 pub use recorded::draw_history;

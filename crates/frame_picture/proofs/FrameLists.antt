@@ -75,10 +75,21 @@ few_frames before (e ∷ es) =
 pub frames_of-front-≤ : (h : List Entry) (i : ℕ) → i ≤ length h → length (frames_of (take i h)) ≤ i
 frames_of-front-≤ h i within = omega (arith, few_frames [] (take i h), length-take-le i h within)
 
--- of no frames none is drawn
-pub frames_in-nil : (span : Span) → frames_in span [] ≡ []
-frames_in-nil span =
-    ap (take span.count) (drop_all span.from [] (omega arith)) ∙ take_all span.count [] (omega arith)
+-- a history builds no more frames than it has entries
+pub frames_of-≤ : (h : List Entry) → length (frames_of h) ≤ length h
+frames_of-≤ h = few_frames [] h
+
+-- nor do entries behind others
+pub frames_behind-≤ : (before h : List Entry) → length (frames_of (before ++ h)) ≤ length (frames_of before) + length h
+frames_behind-≤ before h =
+    let apart : length (frames_of (before ++ h)) ≡ length (frames_of before ++ frames_after ([] ++ before) h) =
+    ap length (frames_after-append [] before h) in
+    omega (arith, apart, length-append (frames_of before) (frames_after ([] ++ before) h), few_frames ([] ++ before) h)
+
+-- of frames before the span none is drawn
+pub frames_in-early : (span : Span) (fs : List Frame) → length fs ≤ span.from → frames_in span fs ≡ []
+frames_in-early span fs early =
+    ap (take span.count) (drop_all span.from fs early) ∙ take_all span.count [] (omega arith)
 
 -- how many frames of so many are drawn
 pub length-frames_in : (span : Span) (fs : List Frame)

@@ -5,7 +5,7 @@ use Rattle.std.proofs.Common.{append-nil, codes, inl, inr, add-one, ltb}
 use Rattle.std.specs.Prelude.{if◌then◌else◌, IfSome}
 use Rattle.std.specs.List.{range_with_len, AllByRecursion}
 use Rattle.std.specs.Io.KnownBytes.{Appends}
-use Rattle.std.proofs.KnownBytes.{Appends-trans}
+use Rattle.std.proofs.KnownBytes.{Appends-trans, Appends-nil}
 use Rattle.std.proofs.lemmas.Bool.{cases_lt, lt-ltb, le-ltb, le-leb, lt-leb}
 use Rattle.std.proofs.lemmas.List.FromFn.{map-range_with_len_more}
 use Rattle.std.proofs.lemmas.List.{get_or_past}
@@ -35,7 +35,7 @@ use Rattle.frame_picture.specs.Bar.{bar_at, bar_with}
 use Rattle.frame_picture.specs.Bars.{bar_text, bars_text}
 use Rattle.frame_picture.specs.Picture.{start_text, left_text, map_text, built_text, entry_text, row_text, rows_text}
 use Rattle.frame_picture.proofs.Drawn.{rows_text-append}
-use Rattle.frame_picture.proofs.FrameLists.{frames_of-push, frames_in-before, frames_in-behind, frames_in-more}
+use Rattle.frame_picture.proofs.FrameLists.{frames_of-push, frames_in-early, frames_in-before, frames_in-behind, frames_in-more}
 use Rattle.frame_picture.proofs.FrameLists.{length-frames_in}
 
 -- the SIDs of a MAP are below 65536
@@ -209,6 +209,16 @@ rows_more a b c scale span along h longer e is whole known before one =
     ++ entry_text scale (place_in span k) along.next (λ sid. get_or along.flows sid false) e.reply) (sym known.number) in
     rw all (Appends-trans a b c (rows_text scale span.from 0 (frames_in span fs))
     (entry_text scale (place_in span along.number) along.next (λ sid. get_or along.flows sid false) e.reply) before one)
+
+-- behind entries whose frames come before the span nothing is drawn yet
+pub rows_none : (a : Option (List ℕ)) (scale : Scale) (span : Span) (along : Along) (before : List Entry)
+    → IsAlong scale along before → along.number ≤ span.from
+    → Appends a a (rows_text scale span.from 0 (frames_in span (frames_of (before ++ []))))
+rows_none a scale span along before known early =
+    let none : frames_in span (frames_of (before ++ [])) ≡ [] =
+    ap (λ (h : List Entry). frames_in span (frames_of h)) (append-nil before)
+    ∙ frames_in-early span (frames_of before) (omega (arith, known.number, early)) in
+    rw none (Appends-nil a)
 
 -- a row whose frame has a number near that of the first one
 pub row_within : (o : Option Place) (n from : ℕ) → n ≤ from + MAX_ENTRIES → IfSome o (λ p. p.row + from ≡ n)

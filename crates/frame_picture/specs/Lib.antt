@@ -5,6 +5,7 @@ pub mod Layout
 pub mod Frames
 pub mod Turns
 pub mod Along
+pub mod Part
 pub mod Bar
 pub mod Bars
 pub mod Axis

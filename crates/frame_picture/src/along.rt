@@ -53,7 +53,8 @@ pub(crate) fn left_out(scale: Scale, next: u128, start: u64) -> u64
 
 // What no entry tells.
 pub(crate) fn along_none(scale: Scale) -> Along
-    ensures { IsAlong scale result [] }
+    ensures known { IsAlong scale result [] }
+    ensures first { result.number ≡ 0 }
 {
     Along {
         flows: no_flows(),

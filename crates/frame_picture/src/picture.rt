@@ -1,11 +1,14 @@
 //! The picture of a history's frames.
 
-ghost use Rattle.std.specs.Prelude.{◌≡◌, ◌<◌, ◌≤◌, length, get_or, false, IfSome};
+ghost use Rattle.std.specs.Prelude.{◌≡◌, ◌<◌, ◌≤◌, ◌++◌, List, length, get_or, false, IfSome};
 ghost use Rattle.std.specs.List.{AllByRecursion};
-ghost use Rattle.sched_calls.specs.declared.reply.TheConstants.{MAX_ENTRIES};
+ghost use Rattle.sched_calls.specs.declared.reply.TheConstants.{MAX_ENTRIES, MAX_WHOLE_HISTORY};
+ghost use Rattle.sched_calls.specs.declared.reply.Entry.{Entry as Recorded};
 ghost use Rattle.sched_calls.specs.Reply.{IsEncodable};
 ghost use Rattle.frame_picture.specs.Frames.{frames_of, frames_in};
+ghost use Rattle.frame_picture.specs.Along.{IsAlong};
 ghost use Rattle.frame_picture.specs.Layout.{scale_of};
+ghost use Rattle.frame_picture.specs.Part.{IsPart, HasTaken};
 ghost use Rattle.frame_picture.specs.Picture.{entry_text, rows_text, frames_text, picture_text};
 ghost use Rattle.text_stream.specs.Writing.{Puts, Writes};
 
@@ -13,6 +16,7 @@ use crate::along::{Along, along_none, count_map, go_along};
 use crate::axis::put_axes;
 use crate::head::put_head;
 use crate::layout::{Scale, scale_of};
+use crate::part::Part;
 use crate::row::put_row;
 use crate::span::{Place, Span, place_in};
 use minislots::Checked;
@@ -58,53 +62,61 @@ fn put_entry<W: Sink>(
     }
 }
 
-// The rows of a history's frames that are drawn.
+// The rows of frames in the span that these entries build, behind what the entries before them tell.
 fn put_rows<W: Sink>(
     lines: &mut TextBuffer,
     writer: &mut W,
     scale: Scale,
     span: Span,
+    along: &mut Along,
     entries: &[Entry],
 ) -> Result<(), TextFault>
+    requires known { (before : List Recorded) × IsAlong scale along.old before }
+    requires early { along.old.number ≤ span.from }
+    requires near { along.old.number ≤ MAX_WHOLE_HISTORY }
     requires few { length entries.now ≤ MAX_ENTRIES }
     requires some { 0 < scale.frame }
     requires narrow { scale.units ≤ 1024 }
     requires whole { AllByRecursion (λ e. IsEncodable e.reply) entries.now }
-    ensures { Puts W.contents W.has_failed writer.old writer.new lines.old lines.new
-        (rows_text scale span.from 0 (frames_in span (frames_of entries.now))) result }
+    ensures { (before : List Recorded) → IsAlong scale along.old before
+        → Puts W.contents W.has_failed writer.old writer.new lines.old lines.new
+        (rows_text scale span.from 0 (frames_in span (frames_of (before ++ entries.now)))) result }
 {
-    let mut along = along_none(scale);
     for entry in entries {
         let place = place_in(span, along.number);
-        put_entry(lines, writer, scale, place, &along, entry)?;
-        go_along(&mut along, scale, entry);
+        put_entry(lines, writer, scale, place, along, entry)?;
+        go_along(along, scale, entry);
     }
     Ok(())
 }
 
-// All of a picture.
+// All of the picture of a history of so many frames, whose entries with frames that are drawn are these, behind what
+// the entries before them tell.
 #[tactic(auto, unfolding(crate::specs::Picture::frames_text))]
 fn put_all<W: Sink>(
     lines: &mut TextBuffer,
     writer: &mut W,
     scale: Scale,
     span: Span,
+    total: u64,
+    along: &mut Along,
     entries: &[Entry],
 ) -> Result<(), TextFault>
+    requires part { (h : List Recorded) × IsPart scale span along.old total entries.now h }
+    requires near { total ≤ MAX_WHOLE_HISTORY }
     requires some { 0 < scale.frame }
     requires short { scale.frame ≤ 1024 }
     requires narrow { scale.units ≤ 1024 }
     requires few { length entries.now ≤ MAX_ENTRIES }
     requires whole { AllByRecursion (λ e. IsEncodable e.reply) entries.now }
-    ensures { Puts W.contents W.has_failed writer.old writer.new lines.old lines.new
-        (frames_text scale (length (frames_of entries.now)) span.from
-        (frames_in span (frames_of entries.now))) result }
+    ensures { (h : List Recorded) → IsPart scale span along.old total entries.now h
+        → Puts W.contents W.has_failed writer.old writer.new lines.old lines.new
+        (frames_text scale (length (frames_of h)) span.from (frames_in span (frames_of h))) result }
 {
-    let total = count_maps(entries);
     let rows = span.count.min(total.saturating_sub(span.from));
     put_head(lines, writer, scale, rows, total)?;
     put_axes(lines, writer, scale, rows)?;
-    put_rows(lines, writer, scale, span, entries)?;
+    put_rows(lines, writer, scale, span, along, entries)?;
     lines.put(writer, b"</svg>\n")
 }
 
@@ -126,6 +138,34 @@ pub fn put_picture<W: Sink>(
         (picture_text config.now span entries.now) result }
 {
     let mut lines = TextBuffer::new();
-    put_all(&mut lines, writer, scale_of(config), span, entries)?;
+    let scale = scale_of(config);
+    let total = count_maps(entries);
+    let mut along = along_none(scale);
+    put_all(&mut lines, writer, scale, span, total, &mut along, entries)?;
+    lines.write_out(writer)
+}
+
+/// Writes the picture of the frames that were taken, as [`put_picture`] does of a history.
+pub fn put_part<W: Sink>(writer: &mut W, config: &Checked, part: &mut Part) -> Result<(), TextFault>
+    requires known { (h : List Recorded) × HasTaken part.old h }
+    requires near { part.old.total ≤ MAX_WHOLE_HISTORY }
+    requires scale { part.old.scale ≡ scale_of config.now }
+
+    // What was written is the picture of all entries that came, and nothing else.
+    ensures { (h : List Recorded) → HasTaken part.old h
+        → Writes W.contents W.has_failed writer.old writer.new
+        (picture_text config.now part.old.span h) result }
+{
+    let mut lines = TextBuffer::new();
+    let scale = scale_of(config);
+    put_all(
+        &mut lines,
+        writer,
+        scale,
+        part.span,
+        part.total,
+        &mut part.along,
+        &part.kept,
+    )?;
     lines.write_out(writer)
 }

@@ -2,5 +2,5 @@
 use Rattle.std.proofs.Common.{refl}
 use Rattle.frame_picture.proofs.along.along_none.Goals as goal
 
-pub returns : goal.returns
-returns c = record { flows = c.no_flows.ensures; number = refl; next = c.from.ensures }
+pub returns-clause-known : goal.returns-clause-known
+returns-clause-known c = record { flows = c.no_flows.ensures; number = refl; next = c.from.ensures }
