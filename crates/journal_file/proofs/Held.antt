@@ -46,7 +46,9 @@ went_on wording old new unread before written held left stands went =
         read = all.read;
         ended = at_end-behind held left all.ended;
         texts = all.texts;
+        point = all.point;
         says = all.says;
+        history = all.history;
         out = all.out;
         stood = all.stood;
       };

@@ -45,6 +45,7 @@ says-json : (r : Result Said TextFault) → says_config r ≡ true
     → (r >>= (λ said. config_said said >>= (λ config. unless_wrong (first_wrong config) config))) ≢ Err NotJson
 says-json (Ok (saying.Opening (Some config))) says is = lawful-json (first_wrong config) config is
 says-json (Ok (saying.Opening None)) says is = cc
+says-json (Ok saying.Stats) says is = (let no : false ≡ true = says in cc)
 says-json (Ok (saying.Call call)) says is = (let no : false ≡ true = says in cc)
 says-json (Err fault) says is = (let no : false ≡ true = says in cc)
 

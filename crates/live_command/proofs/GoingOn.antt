@@ -12,7 +12,7 @@ use Rattle.live_command.specs.declared.fault.LiveFault.{LiveFault}
 use Rattle.live_command.specs.declared.wording.Wording.{Wording}
 use Rattle.live_command.specs.declared.journal.BeginFault.{BeginFault}
 use Rattle.live_command.specs.Spoken.{spoken}
-use Rattle.live_command.specs.Answers.{SaysEach}
+use Rattle.live_command.specs.Answers.{SaysEach, Waiting, fresh}
 use Rattle.live_command.specs.Going.{GoesFrom, ReadsFront, WentOn, EndsGoing}
 use Rattle.live_command.specs.Talk.{start_at, Start, Talk, TellsOn, Conversed, Stopped, StopsTalk}
 use Rattle.live_command.proofs.Saying.{SaysEach-spoken}
@@ -21,25 +21,28 @@ use Rattle.live_command.proofs.Turning.{Talk-start}
 
 -- blank lines were passed, and nothing was said to them
 pub Talk-passed : (s : Start) (m : Machine) (left after written : Option (List ℕ)) (stands : List Entry → Type 0)
-    (blanks : List (List ℕ)) → Talk s 0 m left written stands [] → spoken blanks ≡ [] → TakesLines left blanks after
-    → Talk s 0 m after written stands []
+    (blanks : List (List ℕ)) → Talk s 0 m left written stands fresh → spoken blanks ≡ []
+    → TakesLines left blanks after → Talk s 0 m after written stands fresh
 Talk-passed s m left after written stands blanks talk blank passed =
-    let none : SaysEach s.config s.wording m.history (spoken blanks) [] m.history =
-    subst (λ (l : List (List ℕ)). SaysEach s.config s.wording m.history l [] m.history) (sym blank) refl in
-    let says = SaysEach-spoken s.config s.wording talk.history talk.more talk.answers m.history blanks [] m.history
+    let none : SaysEach s.config s.wording talk.now (spoken blanks) [] talk.now =
+    subst (λ (l : List (List ℕ)). SaysEach s.config s.wording talk.now l [] talk.now) (sym blank) refl in
+    let says = SaysEach-spoken s.config s.wording talk.point talk.more talk.answers talk.now blanks [] talk.now
     talk.says_more none in
     record {
       lines = talk.lines;
       texts = talk.texts;
-      history = talk.history;
+      point = talk.point;
       says = talk.says;
       stood = talk.stood;
       out = talk.out;
       more = talk.more ++ blanks;
       answers = talk.answers;
-      says_more = subst (λ (l : List (List ℕ)). SaysEach s.config s.wording talk.history
-          (spoken (talk.more ++ blanks)) l m.history) (append-nil talk.answers) says;
+      now = talk.now;
+      says_more = subst (λ (l : List (List ℕ)). SaysEach s.config s.wording talk.point
+          (spoken (talk.more ++ blanks)) l talk.now) (append-nil talk.answers) says;
+      history = talk.history;
       waiting = talk.waiting;
+      counted = talk.counted;
       read = subst (λ (l : List (List ℕ)). TakesLines s.unread l after)
           (append_assoc talk.lines talk.more blanks)
           (TakesLines-trans s.unread left after (talk.lines ++ talk.more) blanks talk.read passed);
@@ -49,14 +52,14 @@ Talk-passed s m left after written stands blanks talk blank passed =
     }
 
 -- the first line was told, or none was
-abbrev pub Begins : Start → Machine → Option (List ℕ) → Option (List ℕ) → (List Entry → Type 0) → List ℕ → AtHand
+abbrev pub Begins : Start → Machine → Option (List ℕ) → Option (List ℕ) → (List Entry → Type 0) → Waiting → AtHand
     → Option Told → Type 0
 Begins s m left written stands waits hand told =
     MatchOption told (Talk s 0 m left written stands waits) (TellsOn s 0 m left written stands waits hand)
 
 -- nothing more is written at all
 pub begins_quiet : (s : Start) (m : Machine) (left written : Option (List ℕ)) (stands : List Entry → Type 0)
-    (waits : List ℕ) (hand : AtHand) (told : Option Told) → Begins s m left written stands waits hand told
+    (waits : Waiting) (hand : AtHand) (told : Option Told) → Begins s m left written stands waits hand told
     → Stopped s m.history written stands
 begins_quiet s m left written stands waits hand None talk = Stopped-quiet s 0 m left written stands waits talk
 begins_quiet s m left written stands waits hand (Some told) tells =
@@ -87,7 +90,7 @@ module _ (wording : Wording) (m : Machine) (unread left : Option (List ℕ)) (ha
   -- the conversation begins there
   pub front_begins : (written : Option (List ℕ)) (stands : List Entry → Type 0) (told : Option Told)
       → m.handed ≡ length m.history → stands m.history → (reads : ReadsFront m.config unread left hand told)
-      → Begins (start_at wording m (front_goes told reads).0 written) m left written stands [] hand told
+      → Begins (start_at wording m (front_goes told reads).0 written) m left written stands fresh hand told
   front_begins written stands None handed stood passes =
       Talk-passed (start_at wording m passes.behind written) m passes.behind left written stands passes.blanks
       (Talk-start wording m passes.behind written stands handed stood) passes.blank passes.passed

@@ -1,6 +1,9 @@
 pub mod Differing
 pub mod Read
 pub mod Saying
+mod Counting
+pub mod Counted
+mod Telling
 pub mod Talking
 pub mod Turning
 mod Failing

@@ -31,6 +31,7 @@ faults-said_in bytes = faults-bind (value_of bytes) (λ d. Ok (said_by d)) (faul
 faults-config_said : (said : Said) → IfErr (config_said said) IsOfText
 faults-config_said (saying.Opening (Some config)) = tt
 faults-config_said (saying.Opening None) = tt
+faults-config_said saying.Stats = tt
 faults-config_said (saying.Call call) = tt
 
 -- an opening is not JSON, has a fault of shape, or a wrong configuration

@@ -10,10 +10,11 @@ use Rattle.sched_history.specs.Machine.{Machine, kept_of}
 use Rattle.text_stream.specs.Lines.{lines_of, TakesLines}
 use Rattle.text_stream.specs.Told.{HasNoEnd}
 use Rattle.live_command.specs.Spoken.{spoken}
-use Rattle.live_command.specs.Answers.{SaysEach, joined, AnswersLines}
+use Rattle.live_command.specs.Answers.{SaysEach, joined, AnswersLines, Point, point_at, Waiting}
 use Rattle.live_command.specs.Journal.{Grows, GrowsInPart}
 use Rattle.live_command.specs.Sending.{AppendsInPart}
 use Rattle.live_command.specs.Talk.{Start, AreLines, BeginsWith, Talk, Conversed, Stopped, BreaksOff}
+use Rattle.live_command.proofs.Counted.{IsCounted-as}
 use Rattle.live_command.proofs.Saying.{SaysEach-spoken, SaysEach-grows, joined-append}
 
 -- lines were taken, and then others
@@ -62,30 +63,31 @@ Appends-none None = tt
 Appends-none (Some xs) = sym (append-nil xs)
 
 module _ (s : Start) (turns : ℕ) (m : Machine) (left written : Option (List ℕ)) (stands : List Entry → Type 0)
-    (waits : List ℕ) (talk : Talk s turns m left written stands waits) where
+    (waits : Waiting) (talk : Talk s turns m left written stands waits) where
   -- all that was said, and the history that it made
-  pub said : SaysEach s.config s.wording s.resumed (spoken (talk.lines ++ talk.more)) (talk.texts ++ talk.answers)
-      m.history
-  said = SaysEach-spoken s.config s.wording s.resumed talk.lines talk.texts talk.history talk.more talk.answers
-      m.history talk.says talk.says_more
+  pub said : SaysEach s.config s.wording (point_at s.resumed) (spoken (talk.lines ++ talk.more))
+      (talk.texts ++ talk.answers) talk.now
+  said = SaysEach-spoken s.config s.wording (point_at s.resumed) talk.lines talk.texts talk.point talk.more
+      talk.answers talk.now talk.says talk.says_more
 
   -- the entries that are kept are those behind the ones in the journal
-  pub kept : m.history ≡ talk.history ++ kept_of m
+  pub kept : m.history ≡ talk.point.history ++ kept_of m
   kept =
-      let grown = SaysEach-grows s.config s.wording talk.history (spoken talk.more) talk.answers m.history
+      let more = SaysEach-grows s.config s.wording talk.point (spoken talk.more) talk.answers talk.now
       talk.says_more in
-      let rest : kept_of m ≡ grown.0 =
+      let grown : m.history ≡ talk.point.history ++ more.0 = sym talk.history ∙ more.1 in
+      let rest : kept_of m ≡ more.0 =
       ap (λ (n : ℕ). drop n m.history) talk.handed
-      ∙ ap (λ (h : List Entry). drop (length talk.history) h) grown.1
-      ∙ drop-append_seam talk.history grown.0 in
-      grown.1 ∙ ap (λ (h : List Entry). talk.history ++ h) (sym rest)
+      ∙ ap (λ (h : List Entry). drop (length talk.point.history) h) grown
+      ∙ drop-append_seam talk.point.history more.0 in
+      grown ∙ ap (λ (h : List Entry). talk.point.history ++ h) (sym rest)
 
   -- all entries are put into the journal
   pub recorded : (now : List Entry → Type 0) → Grows stands now (kept_of m) → now m.history
-  recorded now grows = subst now (sym kept) (grows talk.history talk.stood)
+  recorded now grows = subst now (sym kept) (grows talk.point.history talk.stood)
 
   -- and the answers are written
-  pub out_all : (now : Option (List ℕ)) → Appends written now waits
+  pub out_all : (now : Option (List ℕ)) → Appends written now waits.text
       → Appends s.written now (joined (talk.texts ++ talk.answers))
   out_all now out =
       subst (Appends s.written now) (sym (joined-append talk.texts talk.answers))
@@ -94,51 +96,58 @@ module _ (s : Start) (turns : ℕ) (m : Machine) (left written : Option (List �
 
   -- then nothing waits
   pub Talk-settled : (new : Machine) (sent : Option (List ℕ)) (now : List Entry → Type 0)
-      → Grows stands now (kept_of m) → Appends written sent waits
-      → new ≡ record m { handed = length m.history } → Talk s turns new left sent now []
+      → Grows stands now (kept_of m) → Appends written sent waits.text
+      → new ≡ record m { handed = length m.history }
+      → Talk s turns new left sent now (record waits { text = [] })
   Talk-settled new sent now grows out state =
       let same : new.history ≡ m.history = ap (λ (k : Machine). k.history) state in
       record {
         lines = talk.lines ++ talk.more;
         texts = talk.texts ++ talk.answers;
-        history = m.history;
+        point = talk.now;
         says = said;
-        stood = recorded now grows;
+        stood = subst now (sym talk.history) (recorded now grows);
         out = out_all sent out;
         more = [];
         answers = [];
-        says_more = same;
+        now = talk.now;
+        says_more = refl;
+        history = talk.history ∙ sym same;
         waiting = refl;
+        counted = IsCounted-as talk.now waits (record waits { text = [] }) refl refl talk.counted;
         read = subst (λ (l : List (List ℕ)). TakesLines s.unread l left) (sym (append-nil (talk.lines ++ talk.more)))
             talk.read;
         config = ap (λ (k : Machine). k.config) state ∙ talk.config;
-        handed = ap (λ (k : Machine). k.handed) state;
+        handed = ap (λ (k : Machine). k.handed) state ∙ ap length (sym talk.history);
         many = subst (λ (l : List (List ℕ)). turns ≤ length l) (sym (append-nil (talk.lines ++ talk.more))) talk.many;
       }
 
   -- one line more, and its answer
-  pub Talk-line : (line : List ℕ) (new : Machine) (left_new : Option (List ℕ)) (waits_new : List ℕ)
-      → TakesLines left (line ∷ []) left_new → AnswersLines s.wording (line ∷ []) m new waits waits_new
+  pub Talk-line : (line : List ℕ) (new : Machine) (left_new : Option (List ℕ)) (waits_new : Waiting)
+      → TakesLines left (line ∷ []) left_new → AnswersLines s.wording (line ∷ []) talk.now m new waits waits_new
       → Talk s (turns + 1) new left_new written stands waits_new
   Talk-line line new left_new waits_new taken answers =
       let lines : (talk.lines ++ talk.more) ++ line ∷ [] ≡ talk.lines ++ (talk.more ++ line ∷ []) =
       append_assoc talk.lines talk.more (line ∷ []) in
-      let says : SaysEach s.config s.wording m.history (spoken (line ∷ [])) answers.texts new.history =
-      subst (λ c. SaysEach c s.wording m.history (spoken (line ∷ [])) answers.texts new.history) talk.config
+      let says : SaysEach s.config s.wording talk.now (spoken (line ∷ [])) answers.texts answers.point =
+      subst (λ c. SaysEach c s.wording talk.now (spoken (line ∷ [])) answers.texts answers.point) talk.config
       answers.says in
       record {
         lines = talk.lines;
         texts = talk.texts;
-        history = talk.history;
+        point = talk.point;
         says = talk.says;
         stood = talk.stood;
         out = talk.out;
         more = talk.more ++ line ∷ [];
         answers = talk.answers ++ answers.texts;
-        says_more = SaysEach-spoken s.config s.wording talk.history talk.more talk.answers m.history (line ∷ [])
-            answers.texts new.history talk.says_more says;
+        now = answers.point;
+        says_more = SaysEach-spoken s.config s.wording talk.point talk.more talk.answers talk.now (line ∷ [])
+            answers.texts answers.point talk.says_more says;
+        history = answers.history;
         waiting = answers.waits ∙ ap (λ (w : List ℕ). w ++ joined answers.texts) talk.waiting
             ∙ sym (joined-append talk.answers answers.texts);
+        counted = answers.counted;
         read = subst (λ (l : List (List ℕ)). TakesLines s.unread l left_new) lines
             (TakesLines-trans s.unread left left_new (talk.lines ++ talk.more) (line ∷ []) talk.read taken);
         config = ap (λ (k : Machine). k.config) answers.state ∙ talk.config;
@@ -151,25 +160,27 @@ module _ (s : Start) (turns : ℕ) (m : Machine) (left written : Option (List �
   pub Stopped-recording : (now : List Entry → Type 0) → GrowsInPart stands now (kept_of m)
       → Stopped s m.history written now
   Stopped-recording now grows =
-      let part = grows talk.history talk.stood in
+      let part = grows talk.point.history talk.stood in
       record {
         lines = talk.lines;
         texts = talk.texts;
-        history = talk.history;
+        point = talk.point;
         says = talk.says;
         out = AppendsInPart-all s.written written (joined talk.texts) talk.out;
         more = talk.more;
         answers = talk.answers;
+        now = talk.now;
         says_more = talk.says_more;
+        history = talk.history;
         read = TakesLines-front s.unread left (talk.lines ++ talk.more) talk.read;
-        stood = talk.history ++ take part.0 (kept_of m);
+        stood = talk.point.history ++ take part.0 (kept_of m);
         stands_for = part.1;
         behind = take part.0 (kept_of m);
         stood_is = refl;
         others = drop part.0 (kept_of m);
         whole_is = kept
-            ∙ ap (λ (h : List Entry). talk.history ++ h) (sym (take-append-drop part.0 (kept_of m)))
-            ∙ sym (append_assoc talk.history (take part.0 (kept_of m)) (drop part.0 (kept_of m)));
+            ∙ ap (λ (h : List Entry). talk.point.history ++ h) (sym (take-append-drop part.0 (kept_of m)))
+            ∙ sym (append_assoc talk.point.history (take part.0 (kept_of m)) (drop part.0 (kept_of m)));
       }
 
   -- nothing more is written at all
@@ -179,24 +190,26 @@ module _ (s : Start) (turns : ℕ) (m : Machine) (left written : Option (List �
 
   -- all entries are in the journal, and some of the answers that waited are written
   pub Stopped-sending : (sent : Option (List ℕ)) (now : List Entry → Type 0) → Grows stands now (kept_of m)
-      → AppendsInPart written sent waits → Stopped s m.history sent now
+      → AppendsInPart written sent waits.text → Stopped s m.history sent now
   Stopped-sending sent now grows out = record {
     lines = talk.lines ++ talk.more;
     texts = talk.texts ++ talk.answers;
-    history = m.history;
+    point = talk.now;
     says = said;
     out = subst (AppendsInPart s.written sent) (sym (joined-append talk.texts talk.answers))
         (AppendsInPart-behind s.written written sent (joined talk.texts) (joined talk.answers) talk.out
         (subst (AppendsInPart written sent) talk.waiting out));
     more = [];
     answers = [];
+    now = talk.now;
     says_more = refl;
+    history = talk.history;
     read = subst (BeginsWith s.unread) (sym (append-nil (talk.lines ++ talk.more)))
         (TakesLines-front s.unread left (talk.lines ++ talk.more) talk.read);
     stood = m.history;
     stands_for = recorded now grows;
     behind = [];
-    stood_is = sym (append-nil m.history);
+    stood_is = sym talk.history ∙ sym (append-nil talk.now.history);
     others = [];
     whole_is = sym (append-nil m.history);
   }
@@ -212,32 +225,36 @@ module _ (s : Start) (turns : ℕ) (m : Machine) (left written : Option (List �
       ))
 
   -- nothing more is written, and one line more has an answer, of which no byte was written
-  pub Stopped-unput : (line : List ℕ) (texts : List (List ℕ)) (new : List Entry) (left_new : Option (List ℕ))
-      → TakesLines left (line ∷ []) left_new
-      → SaysEach s.config s.wording m.history (spoken (line ∷ [])) texts new → Stopped s new written stands
-  Stopped-unput line texts new left_new taken says =
-      let grown = SaysEach-grows s.config s.wording m.history (spoken (line ∷ [])) texts new says in
+  pub Stopped-unput : (line : List ℕ) (texts : List (List ℕ)) (end : Point) (new : List Entry)
+      (left_new : Option (List ℕ)) → end.history ≡ new → TakesLines left (line ∷ []) left_new
+      → SaysEach s.config s.wording talk.now (spoken (line ∷ [])) texts end → Stopped s new written stands
+  Stopped-unput line texts end new left_new ends taken says =
+      let more = SaysEach-grows s.config s.wording talk.now (spoken (line ∷ [])) texts end says in
+      let grown : new ≡ m.history ++ more.0 =
+      sym ends ∙ more.1 ∙ ap (λ (h : List Entry). h ++ more.0) talk.history in
       record {
         lines = talk.lines;
         texts = talk.texts;
-        history = talk.history;
+        point = talk.point;
         says = talk.says;
         out = AppendsInPart-all s.written written (joined talk.texts) talk.out;
         more = talk.more ++ line ∷ [];
         answers = talk.answers ++ texts;
-        says_more = SaysEach-spoken s.config s.wording talk.history talk.more talk.answers m.history (line ∷ [])
-            texts new talk.says_more says;
+        now = end;
+        says_more = SaysEach-spoken s.config s.wording talk.point talk.more talk.answers talk.now (line ∷ [])
+            texts end talk.says_more says;
+        history = ends;
         read = TakesLines-front s.unread left_new (talk.lines ++ (talk.more ++ line ∷ []))
             (subst (λ (l : List (List ℕ)). TakesLines s.unread l left_new)
             (append_assoc talk.lines talk.more (line ∷ []))
             (TakesLines-trans s.unread left left_new (talk.lines ++ talk.more) (line ∷ []) talk.read taken));
-        stood = talk.history;
+        stood = talk.point.history;
         stands_for = talk.stood;
         behind = [];
-        stood_is = sym (append-nil talk.history);
-        others = kept_of m ++ grown.0;
-        whole_is = grown.1 ∙ ap (λ (h : List Entry). h ++ grown.0) kept
-            ∙ append_assoc talk.history (kept_of m) grown.0;
+        stood_is = sym (append-nil talk.point.history);
+        others = kept_of m ++ more.0;
+        whole_is = grown ∙ ap (λ (h : List Entry). h ++ more.0) kept
+            ∙ append_assoc talk.point.history (kept_of m) more.0;
       }
 
   -- so many lines came
@@ -249,10 +266,11 @@ module _ (s : Start) (turns : ℕ) (m : Machine) (left written : Option (List �
   )
 
 module _ (s : Start) (turns : ℕ) (m : Machine) (left written : Option (List ℕ)) (stands : List Entry → Type 0)
-    (talk : Talk s turns m left written stands []) where
+    (waits : Waiting) (talk : Talk s turns m left written stands waits) (empty : waits.text ≡ []) where
   -- all that was said was written
   pub nothing-waits : Appends s.written written (joined (talk.texts ++ talk.answers))
-  nothing-waits = out_all s turns m left written stands [] talk written (Appends-none written)
+  nothing-waits = out_all s turns m left written stands waits talk written
+      (subst (Appends written written) (sym empty) (Appends-none written))
 
   -- nothing waits, and the input has ended
   pub Talk-ended : (after : Option (List ℕ)) → stands m.history → IsAtEnd left → IsAtEnd after
@@ -262,7 +280,9 @@ module _ (s : Start) (turns : ℕ) (m : Machine) (left written : Option (List �
     read = TakesLines-all s.unread left (talk.lines ++ talk.more) talk.read ended;
     ended = end;
     texts = talk.texts ++ talk.answers;
-    says = said s turns m left written stands [] talk;
+    point = talk.now;
+    says = said s turns m left written stands waits talk;
+    history = talk.history;
     out = nothing-waits;
     stood = stood;
   }
@@ -276,7 +296,9 @@ module _ (s : Start) (turns : ℕ) (m : Machine) (left written : Option (List �
     read = talk.read;
     none = none;
     texts = talk.texts ++ talk.answers;
-    says = said s turns m left written stands [] talk;
+    point = talk.now;
+    says = said s turns m left written stands waits talk;
+    history = talk.history;
     out = nothing-waits;
     stood = stood;
   }

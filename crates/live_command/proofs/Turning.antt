@@ -14,6 +14,8 @@ use Rattle.live_command.specs.declared.wording.Wording.{Wording}
 use Rattle.live_command.specs.declared.fault.LiveFault.{LiveFault}
 use Rattle.live_command.specs.declared.fault.LiveFault.TheVariants.{Text, Journal}
 use Rattle.live_command.specs.Talk.{start_at, Start, Talk, TellsOn, Conversed, StopsTalk}
+use Rattle.live_command.specs.Answers.{point_at, Waiting, fresh}
+use Rattle.live_command.proofs.Counted.{IsCounted-start}
 use Rattle.live_command.proofs.Talking.{Appends-none, TakesLines-none, Talk-ended, Talk-broken}
 
 -- what follows from the first of two facts that hold where there is a value
@@ -63,7 +65,7 @@ settled_room m new positive state =
 
 module _ (s : Start) (turns : ℕ) (m : Machine) (left written : Option (List ℕ)) (stands : List Entry → Type 0) where
   -- the next line of what is left
-  pub TellsOn-next : (after : Option (List ℕ)) (waits : List ℕ) (hand : AtHand) (told : Told)
+  pub TellsOn-next : (after : Option (List ℕ)) (waits : Waiting) (hand : AtHand) (told : Told)
       → Talk s turns m left written stands waits → TellsNext left after hand told
       → TellsOn s turns m after written stands waits hand told
   TellsOn-next after waits hand told talk next = record {
@@ -75,25 +77,27 @@ module _ (s : Start) (turns : ℕ) (m : Machine) (left written : Option (List �
   }
 
   -- or the end
-  pub next_or_end : (after : Option (List ℕ)) (hand : AtHand) (told : Option Told)
-      → Talk s turns m left written stands [] → stands m.history
+  pub next_or_end : (after : Option (List ℕ)) (waits : Waiting) (hand : AtHand) (told : Option Told)
+      → Talk s turns m left written stands waits → waits.text ≡ [] → stands m.history
       → MatchOption told (HasEnded left after) (TellsNext left after hand)
-      → MatchOption told (Conversed s m after written stands) (TellsOn s turns m after written stands [] hand)
-  next_or_end after hand None talk stood ended =
-      Talk-ended s turns m left written stands talk after stood ended.0 ended.1
-  next_or_end after hand (Some told) talk stood next = TellsOn-next after [] hand told talk next
+      → MatchOption told (Conversed s m after written stands) (TellsOn s turns m after written stands waits hand)
+  next_or_end after waits hand None talk empty stood ended =
+      Talk-ended s turns m left written stands waits talk empty after stood ended.0 ended.1
+  next_or_end after waits hand (Some told) talk empty stood next = TellsOn-next after waits hand told talk next
 
   -- or no line
-  pub stops_reading : (after : Option (List ℕ)) (fault : TextFault) → Talk s turns m left written stands []
-      → stands m.history → StopsLine left after fault → StopsTalk s m after written stands (Text fault)
-  stops_reading after Input talk stood stops = Talk-broken s turns m left written stands talk after stood stops
-  stops_reading after TooLong talk stood stops =
-      inl (Talk-broken s turns m left written stands talk after stood stops.0, stops.1)
-  stops_reading after NotJson talk stood stops = stops
-  stops_reading after (Shape n) talk stood stops = stops
-  stops_reading after (Config field) talk stood stops = stops
-  stops_reading after Memory talk stood stops = absurd stops
-  stops_reading after Output talk stood stops = absurd stops
+  pub stops_reading : (after : Option (List ℕ)) (waits : Waiting) (fault : TextFault)
+      → Talk s turns m left written stands waits → waits.text ≡ [] → stands m.history → StopsLine left after fault
+      → StopsTalk s m after written stands (Text fault)
+  stops_reading after waits Input talk empty stood stops =
+      Talk-broken s turns m left written stands waits talk empty after stood stops
+  stops_reading after waits TooLong talk empty stood stops =
+      inl (Talk-broken s turns m left written stands waits talk empty after stood stops.0, stops.1)
+  stops_reading after waits NotJson talk empty stood stops = stops
+  stops_reading after waits (Shape n) talk empty stood stops = stops
+  stops_reading after waits (Config field) talk empty stood stops = stops
+  stops_reading after waits Memory talk empty stood stops = absurd stops
+  stops_reading after waits Output talk empty stood stops = absurd stops
 
 -- a journal, a writer or memory stops a conversation anywhere
 pub stops_anywhere : (s : Start) (m : Machine) (left written : Option (List ℕ)) (stands : List Entry → Type 0)
@@ -105,18 +109,21 @@ stops_anywhere s m left written stands e (inr (inr is)) = subst (StopsTalk s m l
 -- a conversation begins
 pub Talk-start : (wording : Wording) (m : Machine) (unread written : Option (List ℕ)) (stands : List Entry → Type 0)
     → m.handed ≡ length m.history → stands m.history
-    → Talk (start_at wording m unread written) 0 m unread written stands []
+    → Talk (start_at wording m unread written) 0 m unread written stands fresh
 Talk-start wording m unread written stands handed stood = record {
   lines = [];
   texts = [];
-  history = m.history;
+  point = point_at m.history;
   says = refl;
   stood = stood;
   out = Appends-none written;
   more = [];
   answers = [];
+  now = point_at m.history;
   says_more = refl;
+  history = refl;
   waiting = refl;
+  counted = IsCounted-start m.history;
   read = TakesLines-none unread;
   config = refl;
   handed = handed;
@@ -125,20 +132,23 @@ Talk-start wording m unread written stands handed stood = record {
 
 -- so many turns were taken, and so none at least
 pub talk_again : {A E : Type 0} (s : Start) (m : Machine) (left written : Option (List ℕ))
-    (stands : List Entry → Type 0) (waits : List ℕ) (S : E → Type 0) (r : Result A E)
+    (stands : List Entry → Type 0) (waits : Waiting) (S : E → Type 0) (r : Result A E)
     → MatchResult r (λ _. Talk s 1 m left written stands waits) S
     → MatchResult r (λ _. Talk s 0 m left written stands waits) S
 talk_again s m left written stands waits S (Ok x) talk = record {
   lines = talk.lines;
   texts = talk.texts;
-  history = talk.history;
+  point = talk.point;
   says = talk.says;
   stood = talk.stood;
   out = talk.out;
   more = talk.more;
   answers = talk.answers;
+  now = talk.now;
   says_more = talk.says_more;
+  history = talk.history;
   waiting = talk.waiting;
+  counted = talk.counted;
   read = talk.read;
   config = talk.config;
   handed = talk.handed;

@@ -30,6 +30,7 @@ use Rattle.live_command.specs.Talk.{start_at, BeginsWith, Conversed, Stopped, St
 -- whether a text says a configuration, lawful or not: it is JSON, and has the member `config`
 abbrev pub says_config : Result Said TextFault → Bool
 says_config (Ok (saying.Opening config)) = true
+says_config (Ok saying.Stats) = false
 says_config (Ok (saying.Call call)) = false
 says_config (Err fault) = false
 

@@ -3,6 +3,8 @@ pub mod Difference
 pub mod Said
 pub mod Spoken
 pub mod Answers
+pub mod Numbers
+pub mod Stats
 pub mod Journal
 pub mod Sending
 pub mod Talk

@@ -22,6 +22,7 @@ use Rattle.live_command.specs.Talk.{AreLines, BeginsWith}
 abbrev pub config_said : Said → Result Configuration TextFault
 config_said (saying.Opening (Some config)) = Ok config
 config_said (saying.Opening None) = Err (Shape 0)
+config_said saying.Stats = Err (Shape 0)
 config_said (saying.Call call) = Err (Shape 0)
 
 -- the configuration that the text of an opening says, where it is lawful, or its first fault

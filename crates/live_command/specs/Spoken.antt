@@ -1,10 +1,12 @@
--- Which lines are answered, and the call of one.
+-- Which lines are answered, and what one asks for.
 use Rattle.std.specs.Prelude.{ℕ, Bool, true, not, ◌&&◌, ◌||◌, ◌==◌, nat_lt, if◌then◌else◌, List, [], ◌∷◌, ◌++◌, length}
 use Rattle.std.specs.Prelude.{codes, Option, None, Some, Result, Ok, Err}
 use Rattle.std.specs.List.{filter}
 use Rattle.text_stream.specs.declared.TheConstants.{MAX_LINE}
 use Rattle.text_stream.specs.declared.fault.TextFault.{TextFault}
 use Rattle.sched_calls.specs.declared.call.Call.{Call}
+use Rattle.live_command.specs.declared.asked.Asked.{Asked}
+use Rattle.live_command.specs.declared.asked.Asked.TheVariants as asking
 use Rattle.live_command.specs.declared.fault.LineFault.{LineFault}
 use Rattle.live_command.specs.declared.fault.LineFault.TheVariants.{Long, Json, Shape}
 use Rattle.live_command.specs.declared.said.Said.{Said}
@@ -28,24 +30,36 @@ is_spoken line = nat_lt MAX_LINE (length line) || not (is_blank line)
 abbrev pub spoken : List (List ℕ) → List (List ℕ)
 spoken lines = filter is_spoken lines
 
--- the call that is said; a configuration is none
-abbrev pub call_said : Said → Result Call LineFault
-call_said (saying.Opening config) = Err Shape
-call_said (saying.Call None) = Err Shape
-call_said (saying.Call (Some call)) = Ok call
+-- what is asked for; a configuration asks for nothing
+abbrev pub asked_said : Said → Result Asked LineFault
+asked_said (saying.Opening config) = Err Shape
+asked_said saying.Stats = Ok asking.Stats
+asked_said (saying.Call None) = Err Shape
+asked_said (saying.Call (Some call)) = Ok (asking.Call call)
 
--- the call of what was read of a text, which is JSON or not
-abbrev pub call_read : Result Said TextFault → Result Call LineFault
-call_read (Ok said) = call_said said
-call_read (Err fault) = Err Json
+-- what is asked for by what was read of a text, which is JSON or not
+abbrev pub asked_read : Result Said TextFault → Result Asked LineFault
+asked_read (Ok said) = asked_said said
+asked_read (Err fault) = Err Json
 
--- the call of a line, or its first fault
-unfoldable pub call_of_line : List ℕ → Result Call LineFault
-call_of_line line = if nat_lt MAX_LINE (length line) then Err Long else call_read (said_in line)
+-- what a line asks for, or its first fault
+unfoldable pub asked_of_line : List ℕ → Result Asked LineFault
+asked_of_line line = if nat_lt MAX_LINE (length line) then Err Long else asked_read (said_in line)
 
--- what is heard of a line: its call or its first fault, and nothing of one that is not answered
+-- what is heard of a line: what it asks for or its first fault, and nothing of one that is not answered
+abbrev pub asked_in : List ℕ → Option (Result Asked LineFault)
+asked_in line = if is_spoken line then Some (asked_of_line line) else None
+
+-- the call or the fault of what was heard, and nothing of the numbers
+abbrev pub call_heard : Option (Result Asked LineFault) → Option (Result Call LineFault)
+call_heard None = None
+call_heard (Some (Ok (asking.Call call))) = Some (Ok call)
+call_heard (Some (Ok asking.Stats)) = None
+call_heard (Some (Err fault)) = Some (Err fault)
+
+-- the call of a line or its first fault, and nothing of one that is not answered or that asks for the numbers
 abbrev pub heard_of : List ℕ → Option (Result Call LineFault)
-heard_of line = if is_spoken line then Some (call_of_line line) else None
+heard_of line = call_heard (asked_in line)
 
 -- what is wrong with a line
 abbrev pub fault_words : LineFault → List ℕ

@@ -14,7 +14,7 @@ use Rattle.live_command.specs.declared.fault.LiveFault.{LiveFault}
 use Rattle.live_command.specs.declared.fault.LiveFault.TheVariants.{Text, Journal, OtherConfig, BadJournal}
 use Rattle.live_command.specs.declared.wording.Wording.{Wording}
 use Rattle.live_command.specs.Spoken.{spoken}
-use Rattle.live_command.specs.Answers.{SaysEach, joined}
+use Rattle.live_command.specs.Answers.{Point, point_at, SaysEach, joined, Waiting, IsCounted}
 use Rattle.live_command.specs.Sending.{AppendsInPart}
 
 -- Where a conversation begins: under this configuration, with the history that was resumed, and with what is to be read
@@ -39,25 +39,28 @@ BeginsWith (Some text) lines = (others : List (List ℕ)) × (lines_of text ≡ 
 -- So many lines at least were answered. The answers to some of them are written, and their entries are in the journal.
 -- The answers to the others wait, and their entries are kept by the scheduler
 pub record Talk (s : Start) (turns : ℕ) (m : Machine) (left written : Option (List ℕ)) (stands : List Entry → Type 0)
-    (waits : List ℕ) : Type 0 where
+    (waits : Waiting) : Type 0 where
   pub lines : List (List ℕ)
   pub texts : List (List ℕ)
-  pub history : List Entry
-  pub says : SaysEach s.config s.wording s.resumed (spoken lines) texts history
-  pub stood : stands history
+  pub point : Point
+  pub says : SaysEach s.config s.wording (point_at s.resumed) (spoken lines) texts point
+  pub stood : stands point.history
   pub out : Appends s.written written (joined texts)
   pub more : List (List ℕ)
   pub answers : List (List ℕ)
-  pub says_more : SaysEach s.config s.wording history (spoken more) answers m.history
-  pub waiting : waits ≡ joined answers
+  pub now : Point
+  pub says_more : SaysEach s.config s.wording point (spoken more) answers now
+  pub history : now.history ≡ m.history
+  pub waiting : waits.text ≡ joined answers
+  pub counted : IsCounted now waits
   pub read : TakesLines s.unread (lines ++ more) left
   pub config : m.config ≡ s.config
-  pub handed : m.handed ≡ length history
+  pub handed : m.handed ≡ length point.history
   pub many : turns ≤ length (lines ++ more)
 
 -- The next line was told, and is not answered yet
 pub record TellsOn (s : Start) (turns : ℕ) (m : Machine) (left written : Option (List ℕ))
-    (stands : List Entry → Type 0) (waits : List ℕ) (hand : AtHand) (told : Told) : Type 0 where
+    (stands : List Entry → Type 0) (waits : Waiting) (hand : AtHand) (told : Told) : Type 0 where
   pub line : List ℕ
   pub is : IsTold line told hand.line
   pub between : Option (List ℕ)
@@ -72,12 +75,14 @@ pub record Conversed (s : Start) (m : Machine) (left written : Option (List ℕ)
     pub read : AreLines s.unread lines
     pub ended : IsAtEnd left
     pub texts : List (List ℕ)
-    pub says : SaysEach s.config s.wording s.resumed (spoken lines) texts m.history
+    pub point : Point
+    pub says : SaysEach s.config s.wording (point_at s.resumed) (spoken lines) texts point
+    pub history : point.history ≡ m.history
     pub out : Appends s.written written (joined texts)
     pub stood : stands m.history
 
 -- one line more was answered, and the conversation goes on; or all of them were
-abbrev pub IsTurn : Start → ℕ → Machine → Option (List ℕ) → Option (List ℕ) → (List Entry → Type 0) → List ℕ → Bool
+abbrev pub IsTurn : Start → ℕ → Machine → Option (List ℕ) → Option (List ℕ) → (List Entry → Type 0) → Waiting → Bool
     → Type 0
 IsTurn s turns m left written stands waits true = Talk s (turns + 1) m left written stands waits
 IsTurn s turns m left written stands waits false = Conversed s m left written stands
@@ -90,19 +95,21 @@ pub record Stopped (s : Start) (whole : List Entry) (written : Option (List ℕ)
     -- lines, of whose answers bytes may have been written
     pub lines : List (List ℕ)
     pub texts : List (List ℕ)
-    pub history : List Entry
-    pub says : SaysEach s.config s.wording s.resumed (spoken lines) texts history
+    pub point : Point
+    pub says : SaysEach s.config s.wording (point_at s.resumed) (spoken lines) texts point
     pub out : AppendsInPart s.written written (joined texts)
     -- and lines behind them, of whose answers no byte was written
     pub more : List (List ℕ)
     pub answers : List (List ℕ)
-    pub says_more : SaysEach s.config s.wording history (spoken more) answers whole
+    pub now : Point
+    pub says_more : SaysEach s.config s.wording point (spoken more) answers now
+    pub history : now.history ≡ whole
     pub read : BeginsWith s.unread (lines ++ more)
     -- the entries of the first lines and some behind them
     pub stood : List Entry
     pub stands_for : stands stood
     pub behind : List Entry
-    pub stood_is : stood ≡ history ++ behind
+    pub stood_is : stood ≡ point.history ++ behind
     pub others : List Entry
     pub whole_is : whole ≡ stood ++ others
 
@@ -115,7 +122,9 @@ pub record BreaksOff (s : Start) (m : Machine) (left written : Option (List ℕ)
     pub read : TakesLines s.unread lines between
     pub none : HasNoEnd between left
     pub texts : List (List ℕ)
-    pub says : SaysEach s.config s.wording s.resumed (spoken lines) texts m.history
+    pub point : Point
+    pub says : SaysEach s.config s.wording (point_at s.resumed) (spoken lines) texts point
+    pub history : point.history ≡ m.history
     pub out : Appends s.written written (joined texts)
     pub stood : stands m.history
 

@@ -31,7 +31,7 @@ fn says_config(alloc: Global, scratch: &mut Scratch, line: &[u8]) -> Result<bool
 {
     match read_said(alloc, scratch, line) {
         Ok(Said::Opening(_)) => Ok(true),
-        Ok(Said::Call(_)) => Ok(false),
+        Ok(Said::Stats | Said::Call(_)) => Ok(false),
         Err(TextFault::NotJson) => Ok(false),
         Err(_) => Err(TextFault::Memory),
     }

@@ -2,6 +2,7 @@
 #![tactic(auto)]
 
 mod answer;
+mod asked;
 mod blank;
 mod difference;
 mod fault;
@@ -11,9 +12,11 @@ mod input;
 mod journal;
 mod live;
 mod noting;
+mod numbers;
 mod opening;
 mod outbox;
 mod said;
+mod stats;
 mod talk;
 mod turn;
 mod wording;

@@ -1,9 +1,10 @@
 //! A conversation, from the first line behind its opening to the end of its input.
 
-ghost use Rattle.std.specs.Prelude.{◌≡◌, [], length, IfErr, OnOk, MatchResult, MatchOption};
+ghost use Rattle.std.specs.Prelude.{◌≡◌, length, IfErr, OnOk, MatchResult, MatchOption};
 ghost use Rattle.text_stream.specs.Told.{untold};
 ghost use Rattle.live_command.specs.Failing.{FailsButFor};
 ghost use Rattle.live_command.specs.declared.fault.LiveFault.TheVariants.{Text, Journal as Failed};
+ghost use Rattle.live_command.specs.Answers.{fresh};
 ghost use Rattle.live_command.specs.Journal.{FailsJustBy};
 ghost use Rattle.live_command.specs.Talk.{Start, start_at, Talk, TellsOn, Conversed, Stopped, StopsTalk};
 
@@ -77,10 +78,10 @@ pub(crate) fn talk_from<R: Source, W: Sink, J: Journal>(
     ensures talk { (s : Start) (v : J.View) → s.wording ≡ wording →
         MatchOption told
         (Talk s 0 scheduler.old (untold lines.old (R.remaining reader.old)) (W.contents writer.old)
-        (J.stands_for journal.old v s.config) [])
+        (J.stands_for journal.old v s.config) fresh)
         (TellsOn s 0 scheduler.old
         (untold lines.old (R.remaining reader.old)) (W.contents writer.old)
-        (J.stands_for journal.old v s.config) [] lines.old) →
+        (J.stands_for journal.old v s.config) fresh lines.old) →
         MatchResult result
         (λ _. Conversed s scheduler.new
         (untold lines.new (R.remaining reader.new)) (W.contents writer.new)

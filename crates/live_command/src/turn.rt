@@ -9,7 +9,7 @@ ghost use Rattle.live_command.specs.declared.fault.LiveFault.TheVariants.{Text, 
 ghost use Rattle.live_command.specs.Journal.{FailsJustBy};
 ghost use Rattle.live_command.specs.Talk.{Start, Talk, TellsOn, IsTurn, IsAnywhere, Conversed, Stopped, StopsTalk};
 
-use crate::answer::{answer, hear};
+use crate::answer::{answer, hear_told};
 use crate::fault::LiveFault;
 use crate::journal::Journal;
 use crate::noting::record;
@@ -38,7 +38,7 @@ pub(crate) fn settle<W: Sink, J: Journal>(
         × J.stands_for journal.new v s.config scheduler.new.history)
         (λ _. Stopped s scheduler.new.history (W.contents writer.new)
         (J.stands_for journal.new v s.config)) }
-    ensures settled { OnOk result (outbox.new ≡ []) }
+    ensures settled { OnOk result (outbox.new ≡ record outbox.old { text = [] }) }
     ensures handed { OnOk result
         (scheduler.new ≡ record scheduler.old { handed = length scheduler.old.history }) }
     ensures err { IfErr result IsAnywhere }
@@ -157,7 +157,7 @@ fn take_told<W: Sink, J: Journal>(
         (J.has_failed journal.old) (J.has_failed journal.new) }
 {
     make_room(scheduler, outbox, writer, journal)?;
-    let heard = match hear(alloc, scratch, lines, told) {
+    let heard = match hear_told(alloc, scratch, lines, told) {
         Ok(heard) => heard,
         Err(fault) => {
             settle(scheduler, outbox, writer, journal)?;

@@ -1,6 +1,8 @@
 -- The next line is at hand, or all that waits is settled and it is read.
+use Rattle.std.proofs.Common.{ap}
 use Rattle.std.proofs.lemmas.Result.{err_from_is_err_and}
 use Rattle.text_stream.proofs.Reading.{TellsWhole-at_hand, TellsNext-whole}
+use Rattle.live_command.specs.Answers.{Waiting}
 use Rattle.live_command.proofs.Talking.{Stopped-quiet}
 use Rattle.live_command.proofs.Turning.{TellsOn-next, next_or_end, stops_reading, stops_anywhere}
 use Rattle.live_command.proofs.turn.next_line.Goals as goal
@@ -24,13 +26,16 @@ returns-in_err-told-clause-talk g c = λ s v turns talk.
     let exit = c.from_residual-in_err-told in
     let p = err_from_is_err_and exit.result exit.ensures.1 in
     let settled = c.in_ok-settle.ensures.talk s v turns _ talk in
-    let quiet = rw c.in_ok-settle.ensures.settled at settled.0 in
+    let quiet = settled.0 in
+    let empty = ap (λ (b : Waiting). b.text) c.in_ok-settle.ensures.settled in
     let stops = rw c.in_default.ensures.1 at c.in_err-told.ensures.stops in
-    rw (p.1, p.2) (Stopped-quiet s turns _ _ _ _ _ quiet, stops_reading s turns _ _ _ _ _ _ quiet settled.1 stops)
+    rw (p.1, p.2)
+    (Stopped-quiet s turns _ _ _ _ _ quiet, stops_reading s turns _ _ _ _ _ _ _ quiet empty settled.1 stops)
 
 pub returns-clause-talk : goal.returns-clause-talk
 returns-clause-talk g c = λ s v turns talk.
     let settled = c.in_ok-settle.ensures.talk s v turns _ talk in
-    let quiet = rw c.in_ok-settle.ensures.settled at settled.0 in
+    let quiet = settled.0 in
+    let empty = ap (λ (b : Waiting). b.text) c.in_ok-settle.ensures.settled in
     let told = rw c.in_default.ensures.1 at c.in_ok-told.ensures.told in
-    rw c.in_ok-settle.ensures.settled (next_or_end s turns _ _ _ _ _ _ c.in_ok-told.told quiet settled.1 told)
+    next_or_end s turns _ _ _ _ _ _ _ c.in_ok-told.told quiet empty settled.1 told
