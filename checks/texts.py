@@ -130,6 +130,36 @@ def json_of(row):
     return form
 
 
+def line_in_json(told):
+    """An object as a line of compact JSON, with its keys in ascending order."""
+    return json.dumps(told, sort_keys=True, separators=(",", ":")) + "\n"
+
+
+def payload_in_json(table, **more):
+    """The line of JSON for a payload with this table, and with these members more."""
+    counts, times, *lines = (it.split() for it in table.rstrip().split("\n"))
+    names = "start", "ack", "ranging_start", "ranging_end", "data_start", "data_end"
+    told = dict(zip(names, (int(times[at]) for at in (1, 3, 5, 6, 8, 9))))
+    told |= {"kind": "map", "channel": int(counts[1]), "ucd_count": int(counts[3]), "reserved": int(counts[7])}
+    told["elements"] = [
+        {"sid": int(sid), "iuc": int(code), "offset": int(offset), "usage": name} for sid, code, offset, name in lines]
+    return line_in_json(told | more)
+
+
+def fault_in_json(fault, words, **more):
+    """The line of JSON for a line `fault ..` that means this, and with these members more."""
+    _, number, *place = fault.split(" ")
+    if number in ("hex", "long"):
+        told = {"fault": number}
+    elif number == "frame":
+        told = {"fault": number, "number": int(place.pop())}
+    else:
+        told = {"fault": "payload", "number": int(number)}
+    if place:
+        told["element"] = int(place[0])
+    return line_in_json(told | {"words": words} | more)
+
+
 def script_of(config, calls):
     return f'{{"config":{config},"calls":[{calls}]}}'
 

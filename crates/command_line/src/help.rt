@@ -78,6 +78,11 @@ or `fault` and a number (1 short, 2 above 240 elements, 3 wrong length, 4 an
 expansion, 5 offsets that descend, 6 no Null, 7 a second Null), for 4, 5 and 7
 with the element, counted from 0. With --explain a second line says what it means.
 
+With --json it prints one line of JSON, an object: the fields of the MAP and its
+elements, of a frame the addresses too; the SID and the number of a request; or the
+fault, with its number, its place and what it means. With - it prints such a line for
+each line that is decoded, a wrong one too, with its number, counted from 1.
+
 With --frame the word is a whole frame. That of a MAP, the MAC management message,
 has a line `frame map` with the sender's address, and then the payload's table; a
 request frame `frame request`, the SID and the minislots; a queue-depth request frame

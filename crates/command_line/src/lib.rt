@@ -147,10 +147,21 @@ fn columns_option<'a>(alloc: Global) -> Result<Arg<'a>, AllocError>
         .requires_arg("draw")
 }
 
+// The payload in JSON.
+fn decode_json_option<'a>(alloc: Global) -> Result<Arg<'a>, AllocError>
+    ensures named { IfOk result (λ r. r.id.now ≡ codes "json") }
+    ensures local { IfOk result (λ r. r.global ≡ false) }
+{
+    flag(alloc, "json", "Prints it in JSON, or what is wrong")
+        .conflicts_with("draw")?
+        .conflicts_with("explain")
+}
+
 // The command that shows a payload.
 fn decode_command<'a>(alloc: Global) -> Result<Command<'a>, AllocError>
     ensures { IfOk result (λ r. IsCommand r (codes "decode")
-        (codes "HEX" ∷ codes "draw" ∷ codes "columns" ∷ codes "explain" ∷ codes "frame" ∷ []) []) }
+        (codes "HEX" ∷ codes "draw" ∷ codes "columns" ∷ codes "explain" ∷ codes "frame" ∷ codes "json" ∷ [])
+        []) }
 {
     let about = "Shows the payload of a MAP as a table";
     let draw = flag(
@@ -170,7 +181,8 @@ fn decode_command<'a>(alloc: Global) -> Result<Command<'a>, AllocError>
         .arg(draw)?
         .arg(columns_option(alloc)?)?
         .arg(explain)?
-        .arg(frame)
+        .arg(frame)?
+        .arg(decode_json_option(alloc)?)
 }
 
 // The command that judges a history.
@@ -373,7 +385,7 @@ pub fn commands<'a>(alloc: Global) -> Result<Command<'a>, AllocError>
         ((codes "run", codes "history" ∷ codes "journal" ∷ codes "explain" ∷ codes "frames" ∷ codes "FILE" ∷ [])
         ∷ (
           codes "decode",
-          codes "HEX" ∷ codes "draw" ∷ codes "columns" ∷ codes "explain" ∷ codes "frame" ∷ [],
+          codes "HEX" ∷ codes "draw" ∷ codes "columns" ∷ codes "explain" ∷ codes "frame" ∷ codes "json" ∷ [],
         )
         ∷ (codes "draw", codes "from" ∷ codes "count" ∷ codes "journal" ∷ codes "FILE" ∷ [])
         ∷ (codes "audit", codes "explain" ∷ codes "journal" ∷ codes "FILE" ∷ [])

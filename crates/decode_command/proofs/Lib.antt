@@ -4,3 +4,6 @@ pub mod FrameKinds
 pub mod Addresses
 pub mod Outcomes
 pub mod Decoding
+pub mod JsonDecoding
+pub mod Grown
+pub mod RowsJson

@@ -4,3 +4,6 @@ pub mod Frame
 pub mod Asked
 pub mod Line
 pub mod Lines
+pub mod Decoded
+pub mod Json
+pub mod JsonLines

@@ -11,7 +11,7 @@ use map_codec::DecodeFault;
 use text_stream::{Sink, TextFault, put};
 
 // What a fault of a payload means. Where it names an element, the place of that follows.
-fn fault_words(fault: DecodeFault) -> &'static [u8]
+pub(crate) fn fault_words(fault: DecodeFault) -> &'static [u8]
     ensures { result.now ≡ fault_words fault }
 {
     match fault {
@@ -30,7 +30,7 @@ fn fault_words(fault: DecodeFault) -> &'static [u8]
 }
 
 // What is wrong with a text that is not hexadecimal. Where it is a character, the place of that follows.
-fn hex_words(fault: FromHexError) -> &'static [u8]
+pub(crate) fn hex_words(fault: FromHexError) -> &'static [u8]
     ensures { result.now ≡ hex_words fault }
 {
     match fault {
@@ -42,7 +42,7 @@ fn hex_words(fault: FromHexError) -> &'static [u8]
 }
 
 // The place of the character that is no digit.
-fn digit_of(fault: FromHexError) -> Option<usize>
+pub(crate) fn digit_of(fault: FromHexError) -> Option<usize>
     ensures { result ≡ digit_of fault }
 {
     match fault {

@@ -10,3 +10,12 @@ pub enum Form {
     /// As whole frames.
     Frame,
 }
+
+/// As what texts are decoded into JSON.
+#[derive(Clone, Copy, Debug, PartialEq, Eq)]
+pub enum JsonForm {
+    /// As payloads.
+    Payload,
+    /// As whole frames.
+    Frame,
+}

@@ -51,7 +51,7 @@ fn put_request<W: Sink>(writer: &mut W, request: Request) -> Result<(), TextFaul
 }
 
 // A byte in hexadecimal.
-fn digits_of(byte: u8) -> [u8; 2]
+pub(crate) fn digits_of(byte: u8) -> [u8; 2]
     ensures { result ≡ encode_lower (byte ∷ []) }
 {
     let mut digits = [0u8; 2];
@@ -94,7 +94,7 @@ fn put_frame_fault<W: Sink>(writer: &mut W, number: u64) -> Result<(), TextFault
 }
 
 // The number of a request's fault among those of all frames.
-fn request_fault_number(fault: RequestFault) -> u64
+pub(crate) fn request_fault_number(fault: RequestFault) -> u64
     ensures { result ≡ request_fault_number fault }
 {
     match fault {
@@ -106,7 +106,7 @@ fn request_fault_number(fault: RequestFault) -> u64
 }
 
 // The number of a fault of a MAP's frame among those of all frames.
-fn map_frame_fault_number(fault: MapFrameFault) -> u64
+pub(crate) fn map_frame_fault_number(fault: MapFrameFault) -> u64
     ensures { result ≡ map_frame_fault_number fault }
 {
     match fault {
@@ -209,7 +209,7 @@ fn put_map_frame<W: Sink>(
 }
 
 // Whether bytes have the length of a request.
-fn is_request_long(bytes: &[u8]) -> bool
+pub(crate) fn is_request_long(bytes: &[u8]) -> bool
     ensures { result ≡ has_length bytes.now }
 {
     bytes.len() == 6 || bytes.len() == 7

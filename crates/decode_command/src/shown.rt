@@ -1,8 +1,9 @@
 //! The command over what the program has: standard input, standard output and standard error, which are written with no
 //! buffer, so that nothing is left to flush, and the environment.
 
-use crate::form::Form;
+use crate::form::{Form, JsonForm};
 use crate::frame::decode_frame;
+use crate::json_lines::{decode_json, decode_json_lines};
 use crate::lines::decode_lines;
 use crate::table::decode_text;
 use std::io;
@@ -92,4 +93,18 @@ pub fn show(
         return show_lines(rt, form, columns);
     }
     show_text(rt, text, form, columns)
+}
+
+/// The command `decode --json`: whether the text, or each line of standard input, is a payload, or a frame.
+pub fn show_json(
+    rt: &(impl Input + Print + AllocGlobal),
+    text: &str,
+    form: JsonForm,
+) -> Result<bool, RunFault> {
+    let mut writer = Watched::new(io::writer(rt));
+    if text != STANDARD_INPUT {
+        return decode_json(rt.alloc(), text, form, &mut writer);
+    }
+    let mut reader = Watched::new(rt.reader());
+    decode_json_lines(rt.alloc(), form, &mut reader, &mut writer)
 }

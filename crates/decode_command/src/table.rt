@@ -62,7 +62,7 @@ fn put_column<W: Sink>(writer: &mut W, places: usize, number: u16) -> Result<(),
 
 // The name of an interval usage code.
 #[tactic(auto, unfolding(crate::specs::Table::name_of))]
-fn name_of(code: u8) -> &'static [u8]
+pub(crate) fn name_of(code: u8) -> &'static [u8]
     ensures { result.now ≡ name_of code }
 {
     match code {
@@ -150,7 +150,7 @@ pub fn put_table<W: Sink>(writer: &mut W, map: &WireMap) -> Result<(), TextFault
 }
 
 // The number of a fault.
-fn number_of(fault: DecodeFault) -> u64
+pub(crate) fn number_of(fault: DecodeFault) -> u64
     ensures { result ≡ number_of fault }
 {
     match fault {

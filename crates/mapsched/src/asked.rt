@@ -2,7 +2,7 @@
 
 use bursts_command::BurstsForm;
 use clap::ArgMatches;
-use decode_command::Form as DecodeForm;
+use decode_command::{Form as DecodeForm, JsonForm};
 use live_command::Wording;
 use pcap_command::ADDRESS;
 use report_command::Form;
@@ -60,6 +60,14 @@ pub(crate) fn decode_form_of(decode: &ArgMatches) -> DecodeForm {
         return DecodeForm::Explained;
     }
     DecodeForm::Payload
+}
+
+/// As what the command `decode` is asked to decode into JSON.
+pub(crate) fn json_form_of(decode: &ArgMatches) -> JsonForm {
+    if decode.get_flag("frame") {
+        return JsonForm::Frame;
+    }
+    JsonForm::Payload
 }
 
 /// The form in which the command `bursts` is asked for its numbers.

@@ -5,7 +5,7 @@
 mod asked;
 mod over_input;
 
-use asked::{bursts_form_of, decode_form_of, sizes_of, wording_of};
+use asked::{bursts_form_of, decode_form_of, json_form_of, sizes_of, wording_of};
 use bursts_command::bursts_input;
 use clap::ArgMatches;
 use clap::error::ErrorKind;
@@ -13,7 +13,7 @@ use command_line::{
     Terminals, done, exit_of, explain, fail, matches_of, refuse, tell_waiting, terminals_of,
     words_of,
 };
-use decode_command::{STANDARD_INPUT, show};
+use decode_command::{STANDARD_INPUT, show, show_json};
 use journal_file::live_journal_input;
 use live_command::live_input;
 use over_input::over_input;
@@ -34,6 +34,9 @@ fn decode(
     let text = decode.get_str("HEX").unwrap_or("");
     if text == STANDARD_INPUT {
         tell_waiting(rt, "decode", decode, terminals);
+    }
+    if decode.get_flag("json") {
+        return show_json(rt, text, json_form_of(decode));
     }
     let columns = decode.get_one("columns");
     show(

@@ -9,7 +9,7 @@ use command_line::{
     CommandInput, Terminals, done, exit_of, explain, fail, input_of, matches_of, point_to_check,
     refuse, refuse_file, refuse_terminal, tell_waiting, terminals_of, words_of,
 };
-use decode_command::{Form, STANDARD_INPUT, show};
+use decode_command::{Form, JsonForm, STANDARD_INPUT, show, show_json};
 use journal_entries::EntriesEnd;
 use pcap_command::{ADDRESS, address_asked, frames_input, pcap_input, pcap_journal_input};
 use run_command::{RunOutput, Words, run_input};
@@ -55,6 +55,14 @@ fn form_of(decode: &ArgMatches) -> Form {
     Form::Payload
 }
 
+// As what the command `decode` is asked to decode into JSON.
+fn json_form_of(decode: &ArgMatches) -> JsonForm {
+    if decode.get_flag("frame") {
+        return JsonForm::Frame;
+    }
+    JsonForm::Payload
+}
+
 // The command `decode`: whether the text, or each line of standard input, is a payload, or a frame.
 fn decode(
     rt: &(impl Input + Print + Eprint + Env + AllocGlobal),
@@ -64,6 +72,9 @@ fn decode(
     let text = decode.get_str("HEX").unwrap_or("");
     if text == STANDARD_INPUT {
         tell_waiting(rt, "decode", decode, terminals);
+    }
+    if decode.get_flag("json") {
+        return show_json(rt, text, json_form_of(decode));
     }
     let columns = decode.get_one("columns");
     show(rt, text, form_of(decode), decode.get_flag("draw"), columns)

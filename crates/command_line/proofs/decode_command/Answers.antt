@@ -15,5 +15,7 @@ returns c =
     c.in_ok-arg-3.ensures (search rules) (search rules) in
     let explained = IsCommand-arg _ _ _ (codes "decode") (codes "explain") _ [] wide c.in_ok-arg-4.ensures
     (search rules) (search rules) in
-    IfOk-weaker _ _ _ (λ r adds. IsCommand-arg _ r _ (codes "decode") (codes "frame") _ [] explained adds
-    (search rules) (search rules)) c.arg-5.ensures
+    let framed = IsCommand-arg _ _ _ (codes "decode") (codes "frame") _ [] explained c.in_ok-arg-5.ensures
+    (search rules) (search rules) in
+    IfOk-weaker _ _ _ (λ r adds. IsCommand-arg _ r c.in_ok-decode_json_option.field-0 (codes "decode") (codes "json") _
+    [] framed adds c.in_ok-decode_json_option.ensures.local c.in_ok-decode_json_option.ensures.named) c.arg-6.ensures
