@@ -198,6 +198,11 @@ def rank_of(life):
     return {"unsolicited": None, "polled": 8}.get(life.flow["kind"], life.flow.get("priority"))
 
 
+def rank_name(told):
+    """The rank of the flow of a life as a report tells it, where the flow has one."""
+    return "polled" if told["kind"] == "polled" else told.get("priority")
+
+
 def rank_told(rank, lives):
     own = [life for life in lives if rank_of(life) == rank]
     told = [life.told() for life in own]

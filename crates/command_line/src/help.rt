@@ -161,8 +161,9 @@ which its last byte was granted. Delays are in milliseconds, rates in bits per
 second; a number without room is printed in thousands (k), millions (M) and so on,
 and - means none. Of more than 30 lives it prints those that asked most; with --all
 it prints all, in the order of their admissions. With --json it prints the same
-numbers in one line of JSON, with delays in minislots; with --svg a picture of them,
-the use of minislots over time and the delays by rank.
+numbers in one line of JSON, with delays in minislots; with --openmetrics in that text
+format, with times in seconds; with --svg a picture of them, the use of minislots over
+time and the delays by rank.
 docs/REPORT.md has each number in a line.
 
 With --journal it reads a journal as `run --journal` prints it, of any length, line

@@ -199,6 +199,16 @@ fn report_json_option<'a>(alloc: Global) -> Result<Arg<'a>, AllocError>
     flag(alloc, "json", "Prints all numbers in JSON").conflicts_with("all")
 }
 
+// The numbers of a report as OpenMetrics.
+fn report_metrics_option<'a>(alloc: Global) -> Result<Arg<'a>, AllocError>
+    ensures named { IfOk result (λ r. r.id.now ≡ codes "openmetrics") }
+    ensures local { IfOk result (λ r. r.global ≡ false) }
+{
+    flag(alloc, "openmetrics", "Prints them as OpenMetrics text")
+        .conflicts_with("all")?
+        .conflicts_with("json")
+}
+
 // The picture of a report.
 fn report_picture_option<'a>(alloc: Global) -> Result<Arg<'a>, AllocError>
     ensures named { IfOk result (λ r. r.id.now ≡ codes "svg") }
@@ -206,13 +216,15 @@ fn report_picture_option<'a>(alloc: Global) -> Result<Arg<'a>, AllocError>
 {
     flag(alloc, "svg", "Prints a picture of them in SVG")
         .conflicts_with("all")?
-        .conflicts_with("json")
+        .conflicts_with("json")?
+        .conflicts_with("openmetrics")
 }
 
 // The command that tells how a channel did.
 fn report_command<'a>(alloc: Global) -> Result<Command<'a>, AllocError>
     ensures { IfOk result (λ r. IsCommand r (codes "report")
-        (codes "all" ∷ codes "json" ∷ codes "svg" ∷ codes "journal" ∷ codes "FILE" ∷ []) []) }
+        (codes "all" ∷ codes "json" ∷ codes "openmetrics" ∷ codes "svg" ∷ codes "journal"
+        ∷ codes "FILE" ∷ []) []) }
 {
     let about = "Reads a history from standard input and prints how its channel did";
     let all = flag(
@@ -224,6 +236,7 @@ fn report_command<'a>(alloc: Global) -> Result<Command<'a>, AllocError>
     command(alloc, "report", about, help::REPORT)
         .arg(all)?
         .arg(report_json_option(alloc)?)?
+        .arg(report_metrics_option(alloc)?)?
         .arg(report_picture_option(alloc)?)?
         .arg(lines)?
         .arg(file_word(alloc))
@@ -364,7 +377,10 @@ pub fn commands<'a>(alloc: Global) -> Result<Command<'a>, AllocError>
         )
         ∷ (codes "draw", codes "from" ∷ codes "count" ∷ codes "journal" ∷ codes "FILE" ∷ [])
         ∷ (codes "audit", codes "explain" ∷ codes "journal" ∷ codes "FILE" ∷ [])
-        ∷ (codes "report", codes "all" ∷ codes "json" ∷ codes "svg" ∷ codes "journal" ∷ codes "FILE" ∷ [])
+        ∷ (
+          codes "report",
+          codes "all" ∷ codes "json" ∷ codes "openmetrics" ∷ codes "svg" ∷ codes "journal" ∷ codes "FILE" ∷ [],
+        )
         ∷ (codes "storm", codes "FILE" ∷ []) ∷ (codes "check", codes "FILE" ∷ [])
         ∷ (codes "pcap", codes "mac" ∷ codes "journal" ∷ codes "FILE" ∷ [])
         ∷ (codes "live", codes "explain" ∷ codes "frames" ∷ codes "journal" ∷ codes "sync" ∷ [])

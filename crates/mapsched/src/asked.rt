@@ -28,6 +28,9 @@ pub(crate) fn form_of(report: &ArgMatches) -> Form {
     if report.get_flag("json") {
         return Form::Json;
     }
+    if report.get_flag("openmetrics") {
+        return Form::Metrics;
+    }
     if report.get_flag("svg") {
         return Form::Picture;
     }

@@ -6,7 +6,7 @@ ghost use Rattle.report_command.specs.Form.{Says, IsSaid};
 
 use minislots::Checked;
 use report_picture::{TimedReporter, put_report_picture};
-use report_writing::{json_text, report_text};
+use report_writing::{json_text, metrics_text, report_text};
 use sched_report::Reporter;
 use std::alloc::{AllocError, Global};
 use text_stream::{Sink, TextFault, put};
@@ -20,6 +20,8 @@ pub enum Form {
     All,
     /// In tables, with the 30 lives that asked most.
     Few,
+    /// In the OpenMetrics text format.
+    Metrics,
     /// As a picture in SVG.
     Picture,
 }
@@ -40,6 +42,7 @@ fn text_of(
         Form::Json => Ok(Some(json_text(alloc, reporter)?)),
         Form::All => Ok(Some(report_text(alloc, config, reporter, true)?)),
         Form::Few => Ok(Some(report_text(alloc, config, reporter, false)?)),
+        Form::Metrics => Ok(Some(metrics_text(alloc, config, reporter)?)),
         Form::Picture => Ok(None),
     }
 }

@@ -2,3 +2,4 @@ pub mod Gathering
 mod Refusals
 mod Appended
 mod RefusalsTold
+mod LifeSamples

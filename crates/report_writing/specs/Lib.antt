@@ -5,3 +5,7 @@ pub mod Columns
 pub mod Tables
 pub mod Flows
 pub mod Text
+pub mod Samples
+pub mod RankMetrics
+pub mod LifeMetrics
+pub mod Metrics

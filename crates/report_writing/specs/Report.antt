@@ -27,6 +27,12 @@ kind_name (Unsolicited size interval jitter grants) = codes "unsolicited"
 kind_name (Polled interval jitter rate burst) = codes "polled"
 kind_name (BestEffort priority rate burst) = codes "best_effort"
 
+-- the rank of a flow that asks: that of polled flows, or the priority of a best effort one
+abbrev pub rank_of : FlowSpec → Option ℕ
+rank_of (Unsolicited size interval jitter grants) = None
+rank_of (Polled interval jitter rate burst) = Some POLLED
+rank_of (BestEffort priority rate burst) = Some priority
+
 -- a number that is told in some reports alone
 abbrev pub told_if : Bool → ℕ → Option ℕ
 told_if told n = if told then Some n else None

@@ -1,13 +1,16 @@
-//! A report, written: the numbers of a history as JSON for programs, and as tables for people.
+//! A report, written: the numbers of a history as JSON and OpenMetrics for programs, and as tables for
+//! people.
 #![tactic(auto)]
 
 mod cell;
 mod gathered;
 mod life;
 mod members;
+mod metrics;
 mod printed;
 mod tables;
 mod text;
 
+pub use metrics::metrics_text;
 pub use printed::json_text;
 pub use tables::report_text;

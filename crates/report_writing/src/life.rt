@@ -2,14 +2,13 @@
 
 ghost use Rattle.std.specs.Prelude.{◌≡◌, ◌++◌, OnOk};
 ghost use Rattle.history_writing.specs.Tokens.{tokens_of};
-ghost use Rattle.report_writing.specs.declared.cell.Cell.TheVariants.{Delay};
-ghost use Rattle.report_writing.specs.Report.{kind_name, life_data};
+ghost use Rattle.report_writing.specs.Report.{kind_name, rank_of, life_data};
 
 use crate::cell::{Cell, Spread, put_object};
 use crate::members::told_if;
 use flow_book::FlowSpec;
 use json::Writer;
-use sched_report::LifeNumbers;
+use sched_report::{LifeNumbers, POLLED};
 use std::alloc::AllocError;
 
 // The keys of a life, in ascending order.
@@ -31,7 +30,7 @@ static LIFE: [&str; 14] = [
 ];
 
 // The name of a kind of flow.
-fn kind_name(spec: FlowSpec) -> &'static str
+pub(crate) fn kind_name(spec: FlowSpec) -> &'static str
     ensures { result.now ≡ kind_name spec }
 {
     match spec {
@@ -41,21 +40,32 @@ fn kind_name(spec: FlowSpec) -> &'static str
     }
 }
 
+// The rank of a flow that asks: that of polled flows, or the priority of a best effort one.
+pub(crate) fn rank_of(spec: FlowSpec) -> Option<u8>
+    ensures { result ≡ rank_of spec }
+{
+    match spec {
+        FlowSpec::Unsolicited { .. } => None,
+        FlowSpec::Polled { .. } => Some(POLLED),
+        FlowSpec::BestEffort { priority, .. } => Some(priority),
+    }
+}
+
 // How the delays of a life are spread.
-fn delay_of(life: &LifeNumbers) -> Cell
-    ensures { result ≡ Delay (record {
+pub(crate) fn spread_of(life: &LifeNumbers) -> Spread
+    ensures { result ≡ record {
       greatest = life.now.sums.delays.greatest;
       least = life.now.sums.delays.least;
       middle = life.now.middle;
       p99 = life.now.p99;
-    }) }
+    } }
 {
-    Cell::Delay(Spread {
+    Spread {
         greatest: life.sums.delays.greatest,
         least: life.sums.delays.least,
         middle: life.middle,
         p99: life.p99,
-    })
+    }
 }
 
 // The priority of a life, where it has one.
@@ -82,7 +92,7 @@ pub(crate) fn put_life(
     let cells = [
         Cell::Count(life.sums.asked as u128),
         Cell::Count(life.sums.asks as u128),
-        delay_of(life),
+        Cell::Delay(spread_of(life)),
         Cell::Count(life.dropped as u128),
         Cell::Count(life.from as u128),
         Cell::Count(life.granted),

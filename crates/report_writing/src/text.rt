@@ -189,7 +189,7 @@ pub(crate) fn microseconds(ticks: u32, minislots: u64) -> u128
 }
 
 // A digit.
-fn digit(number: u128) -> u8
+pub(crate) fn digit(number: u128) -> u8
     requires { number ≤ 9 }
     ensures { result ≡ 48 + number }
 {

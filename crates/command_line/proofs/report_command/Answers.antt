@@ -10,9 +10,12 @@ returns c =
     c.command.ensures c.in_ok-arg.ensures (search rules) (search rules) in
     let second = IsCommand-arg _ _ c.in_ok-report_json_option.field-0 (codes "report") (codes "json") _ [] first
     c.in_ok-arg-2.ensures c.in_ok-report_json_option.ensures.local c.in_ok-report_json_option.ensures.named in
-    let third = IsCommand-arg _ _ c.in_ok-report_picture_option.field-0 (codes "report") (codes "svg") _ [] second
-    c.in_ok-arg-3.ensures c.in_ok-report_picture_option.ensures.local c.in_ok-report_picture_option.ensures.named in
-    let fourth = IsCommand-arg _ _ _ (codes "report") (codes "journal") _ [] third c.in_ok-arg-4.ensures
+    let third = IsCommand-arg _ _ c.in_ok-report_metrics_option.field-0 (codes "report") (codes "openmetrics") _ []
+    second c.in_ok-arg-3.ensures c.in_ok-report_metrics_option.ensures.local
+    c.in_ok-report_metrics_option.ensures.named in
+    let fourth = IsCommand-arg _ _ c.in_ok-report_picture_option.field-0 (codes "report") (codes "svg") _ [] third
+    c.in_ok-arg-4.ensures c.in_ok-report_picture_option.ensures.local c.in_ok-report_picture_option.ensures.named in
+    let fifth = IsCommand-arg _ _ _ (codes "report") (codes "journal") _ [] fourth c.in_ok-arg-5.ensures
     c.journal_option-lines.ensures.local c.journal_option-lines.ensures.named in
-    IfOk-weaker _ _ _ (λ r adds. IsCommand-arg _ r _ (codes "report") (codes "FILE") _ [] fourth adds
-    c.file_word.ensures.local c.file_word.ensures.named) c.arg-5.ensures
+    IfOk-weaker _ _ _ (λ r adds. IsCommand-arg _ r _ (codes "report") (codes "FILE") _ [] fifth adds
+    c.file_word.ensures.local c.file_word.ensures.named) c.arg-6.ensures

@@ -1,0 +1,44 @@
+-- The metrics, one part behind another.
+use Rattle.std.proofs.Common.{◌≡◌, ◌++◌, ℕ, Ok, codes, ap, ◌∙◌, refl}
+use Rattle.minislots.specs.declared.config.Config.{Config}
+use Rattle.report_writing.specs.RankMetrics.{ranks_metrics}
+use Rattle.report_writing.specs.LifeMetrics.{lives_metrics}
+use Rattle.report_writing.specs.Metrics.{channel_metrics, metrics_text}
+use Rattle.report_writing.proofs.Appended.{then_ok}
+use Rattle.report_writing.proofs.metrics.metrics_text.Goals as goal
+
+pub returns : goal.returns
+unfolding metrics_text
+returns c =
+    let ticks = c.ticks-ticks.result in
+    let start = c.new-words.result.items in
+    let first = c.push_channel.new.words.items in
+    let second = c.push_ranks_metrics.new.words.items in
+    let third = c.push_lives_metrics.new.words.items in
+    let end = c.extend_from_slice.new.self.items in
+    let channel = channel_metrics ticks c.totals-totals.result c.refused.result.now in
+    let ranks = ranks_metrics ticks c.deref.result.now in
+    let lives = lives_metrics ticks c.deref-2.result.now in
+    let last = codes "# EOF\n" in
+    let whole : end ≡ start ++ (channel ++ (ranks ++ (lives ++ last))) =
+    then_ok {E = ℕ} (Ok tt) start first end channel (ranks ++ (lives ++ last)) c.in_ok-push_channel.ensures
+    (then_ok {E = ℕ} (Ok tt) first second end ranks (lives ++ last) c.in_ok-push_ranks_metrics.ensures
+    (then_ok {E = ℕ} (Ok tt) second third end lives last c.in_ok-push_lives_metrics.ensures
+    c.in_ok-extend_from_slice.ensures.items)) in
+    record {
+      refused = c.refused.result.now;
+      counts = c.refused.ensures;
+      ranks = c.in_ok-ranks.ranks.items;
+      are_ranks = c.in_ok-ranks.ensures;
+      lives = c.in_ok-lives.lives.items;
+      are_lives = c.in_ok-lives.ensures.told;
+      text_is = whole
+          ∙ rw (
+            c.new-words.ensures.items,
+            c.ticks-ticks.ensures.value,
+            ap (λ (k : Config). k.ticks) c.requires,
+            c.totals-totals.ensures,
+            c.deref.ensures.value,
+            c.deref-2.ensures.value,
+          ) refl;
+    }

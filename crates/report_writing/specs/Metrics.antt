@@ -1,0 +1,117 @@
+-- The numbers of a report as OpenMetrics: those of the channel, and the whole text.
+use Rattle.std.specs.Prelude.{◌≡◌, ℕ, ◌+◌, List, ◌++◌, flat_map, length, codes, slice_index}
+use Rattle.std.specs.List.{range_with_len}
+use Rattle.minislots.specs.declared.config.Config.{Config}
+use Rattle.sched_calls.specs.declared.reply.Entry.{Entry}
+use Rattle.sched_report.specs.declared.calls.Calls.{Calls}
+use Rattle.sched_report.specs.declared.slots.Slots.{Slots}
+use Rattle.sched_report.specs.declared.totals.Totals.{Totals}
+use Rattle.sched_report.specs.declared.life.LifeNumbers.{LifeNumbers}
+use Rattle.sched_report.specs.declared.ranks_told.RankTold.{RankTold}
+use Rattle.sched_report.specs.Counts.{CountsRefusals}
+use Rattle.sched_report.specs.RanksTold.{AreRanksTold}
+use Rattle.sched_report.specs.Totals.{totals_of}
+use Rattle.report_writing.specs.declared.metrics.sample.Measure.TheVariants.{Seconds, Pieces}
+use Rattle.report_writing.specs.Gathered.{AreLivesTold}
+use Rattle.report_writing.specs.Samples.{heading, label, labels_of, count_sample, time_sample, count_line}
+use Rattle.report_writing.specs.Samples.{time_line_or_none}
+use Rattle.report_writing.specs.declared.metrics.sample.Whose.TheVariants.{Refusal}
+use Rattle.report_writing.specs.RankMetrics.{ranks_metrics}
+use Rattle.report_writing.specs.LifeMetrics.{lives_metrics}
+
+-- how many frames there are, and how often some were left out
+unfoldable pub frames_metrics : Totals → List ℕ
+frames_metrics t =
+    heading (codes "mapsched_frames") (codes "counter") Pieces (codes "MAPs that were built.")
+    ++ (count_line (codes "mapsched_frames_total") t.frames
+    ++ (heading (codes "mapsched_skips") (codes "counter") Pieces (codes "How often frames were left out.")
+    ++ count_line (codes "mapsched_skips_total") t.skips))
+
+-- where the frames start and end
+unfoldable pub reach_metrics : ℕ → Totals → List ℕ
+reach_metrics ticks t =
+    heading (codes "mapsched_first_frame_start_seconds") (codes "gauge") Seconds
+    (codes "Start of the first frame, from minislot 0 on.")
+    ++ (time_line_or_none ticks (codes "mapsched_first_frame_start_seconds") t.from
+    ++ (heading (codes "mapsched_last_frame_end_seconds") (codes "gauge") Seconds
+    (codes "End of the last frame, from minislot 0 on.")
+    ++ time_line_or_none ticks (codes "mapsched_last_frame_end_seconds") t.to))
+
+-- so many calls of a name
+unfoldable pub call_sample : List ℕ → ℕ → List ℕ
+call_sample name n = count_sample (codes "mapsched_calls_total") (label (codes "call") name) n
+
+-- calls in the order of their names: the first of them
+unfoldable pub first_call_samples : Calls → List ℕ
+first_call_samples c =
+    call_sample (codes "admit") c.admit ++ (call_sample (codes "ask") c.ask
+    ++ (call_sample (codes "build") c.build ++ call_sample (codes "change") c.change))
+
+-- those behind them
+unfoldable pub middle_call_samples : Calls → List ℕ
+middle_call_samples c =
+    call_sample (codes "header") c.header ++ (call_sample (codes "heard") c.heard
+    ++ (call_sample (codes "remove") c.remove ++ call_sample (codes "replace") c.replace))
+
+-- and the others
+unfoldable pub last_call_samples : Calls → List ℕ
+last_call_samples c =
+    call_sample (codes "reserve") c.reserve ++ (call_sample (codes "rest") c.rest
+    ++ (call_sample (codes "skip") c.skip ++ (call_sample (codes "status") c.status
+    ++ call_sample (codes "wake") c.wake)))
+
+-- the calls of each name
+unfoldable pub calls_metrics : Calls → List ℕ
+calls_metrics c =
+    heading (codes "mapsched_calls") (codes "counter") Pieces (codes "Calls by name, refused ones among them.")
+    ++ (first_call_samples c ++ (middle_call_samples c ++ last_call_samples c))
+
+-- the refusals with the number at a place, which are counted from 1
+unfoldable pub refusal_sample : List ℕ → ℕ → List ℕ
+refusal_sample counts place =
+    count_sample (codes "mapsched_refusals_total") (labels_of (Refusal (place + 1))) (slice_index counts place)
+
+-- the refusals with each number
+unfoldable pub refusals_metrics : List ℕ → List ℕ
+refusals_metrics counts =
+    heading (codes "mapsched_refusals") (codes "counter") Pieces (codes "Refusals by number.")
+    ++ flat_map (refusal_sample counts) (range_with_len 0 (length counts))
+
+-- the time of the minislots of a use
+unfoldable pub use_sample : ℕ → List ℕ → ℕ → List ℕ
+use_sample ticks name minislots =
+    time_sample ticks (codes "mapsched_use_seconds_total") (label (codes "use") name) minislots
+
+-- of all uses
+unfoldable pub use_samples : ℕ → Slots → List ℕ
+use_samples ticks s =
+    use_sample ticks (codes "data") s.data_grants ++ (use_sample ticks (codes "idle") s.idle
+    ++ (use_sample ticks (codes "opportunity") s.opportunity ++ (use_sample ticks (codes "poll") s.poll
+    ++ (use_sample ticks (codes "request") s.request ++ use_sample ticks (codes "unsolicited") s.unsolicited))))
+
+-- the minislots of all frames by their use
+unfoldable pub use_metrics : ℕ → Slots → List ℕ
+use_metrics ticks s =
+    heading (codes "mapsched_use_seconds") (codes "counter") Seconds (codes "Time of the minislots of all frames by use.")
+    ++ use_samples ticks s
+
+-- the numbers of the channel
+unfoldable pub channel_metrics : ℕ → Totals → List ℕ → List ℕ
+channel_metrics ticks t refused =
+    frames_metrics t ++ (reach_metrics ticks t ++ (calls_metrics t.calls ++ (refusals_metrics refused
+    ++ use_metrics ticks t.slots)))
+
+-- all of them, where a minislot has so many ticks
+unfoldable pub metrics_text : ℕ → Totals → List ℕ → List RankTold → List LifeNumbers → List ℕ
+metrics_text ticks t refused ranks lives =
+    channel_metrics ticks t refused ++ (ranks_metrics ticks ranks ++ (lives_metrics ticks lives ++ codes "# EOF\n"))
+
+-- The text is the metrics of the report on a history
+pub record IsReportMetrics (c : Config) (h : List Entry) (text : List ℕ) : Type 0 where
+  pub refused : List ℕ
+  pub counts : CountsRefusals refused h
+  pub ranks : List RankTold
+  pub are_ranks : AreRanksTold c h ranks
+  pub lives : List LifeNumbers
+  pub are_lives : AreLivesTold c h lives
+  pub text_is : text ≡ metrics_text c.ticks (totals_of c h) refused ranks lives
