@@ -276,6 +276,7 @@ fn frames_option<'a>(
     alloc: Global,
     name: &'a str,
     least: u64,
+    most: u64,
     help: &'a str,
 ) -> Result<Arg<'a>, AllocError>
     ensures named { IfOk result (λ r. r.id.now ≡ name.entry.now) }
@@ -284,7 +285,7 @@ fn frames_option<'a>(
     let frames = Arg::new(alloc, name).long(name).value_name("N");
     Ok(
         frames
-            .value_parser(ValueParser::unsigned(least, 16_777_216))
+            .value_parser(ValueParser::unsigned(least, most))
             .help(help),
     )
 }
@@ -298,8 +299,8 @@ fn draw_command<'a>(alloc: Global) -> Result<Command<'a>, AllocError>
     let from = "The first frame that is drawn, counted from 0";
     let count = "How many frames are drawn, or all";
     command(alloc, "draw", about, help::DRAW)
-        .arg(frames_option(alloc, "from", 0, from)?)?
-        .arg(frames_option(alloc, "count", 1, count)?)?
+        .arg(frames_option(alloc, "from", 0, 17_592_186_044_416, from)?)?
+        .arg(frames_option(alloc, "count", 1, 16_777_216, count)?)?
         .arg(flag(alloc, "journal", "Reads a journal"))?
         .arg(file_word(alloc))
 }
