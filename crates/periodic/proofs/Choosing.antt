@@ -162,7 +162,8 @@ module _ (c : Config) (table : List Placed) (rows : List Bits) (counts : List �
       refl refl
       (phase-within p) is.starts)
 
-  module _ (f : Found) (p other : Placement) (found : IsFirstFound c rows counts w f) (same : p.starts ≡ starts_of f.row)
+  module _ (f : Found) (starts : List ℕ) (p other : Placement) (found : IsFirstFound c rows counts w f starts)
+      (same : p.starts ≡ starts)
       (phase : phase_of c spec p ≡ f.phase) (offset : offset_of c p ≡ f.offset)
       (even : phase_of c spec other ≡ phase_of c spec p) (level : offset_of c other ≡ offset_of c p)
       (may : IsPlacement c table spec next other) where
@@ -173,18 +174,18 @@ module _ (c : Config) (table : List Placed) (rows : List Bits) (counts : List �
         let index = place / w.interval in
         let low = index-within w.interval f.phase found.phase_within c.cycle place sought.divides within in
         let turn : place / interval_frames c spec ≡ index = ap (λ n. place / n) (sym wanted.interval) in
-        let mine : starts_in c spec p place ≡ group_at w.grants index (starts_of f.row) =
+        let mine : starts_in c spec p place ≡ group_at w.grants index (starts) =
         starts-at c spec p place nominal ∙ ap (λ n. group_at (grants_of spec) n p.starts) turn
         ∙ ap (λ n. group_at n index p.starts) (sym wanted.grants) ∙ ap (group_at w.grants index) same in
         let theirs : starts_in c spec other place ≡ group_at w.grants index other.starts =
         starts-at c spec other place (nominal ∙ sym even)
         ∙ ap (λ n. group_at (grants_of spec) n other.starts) turn
         ∙ ap (λ n. group_at n index other.starts) (sym wanted.grants) in
-        let least = found.at_phase.starts.least other.starts
+        let least = found.at_phase.first.least other.starts
         (starts-of-lawful c table rows spec w lawful sound are sought wanted other f.phase f.offset
         (even ∙ phase) (level ∙ offset) found.phase_within may.starts) index low in
         subst (λ ss. AreNoLater ss (starts_in c spec other place)) (sym mine)
-        (subst (AreNoLater (group_at w.grants index (starts_of f.row))) (sym theirs) least)
+        (subst (AreNoLater (group_at w.grants index (starts))) (sym theirs) least)
 
     -- so none has earlier ones in any frame
     no-earlier : StartsEarlier c spec other p → ⊥
@@ -198,11 +199,12 @@ module _ (c : Config) (table : List Placed) (rows : List Bits) (counts : List �
         ]
 
   -- what is found first is chosen
-  pub found-chosen : (f : Found) (reference : ℕ) → 0 < c.frame → IsFirstFound c rows counts w f
+  pub found-chosen : (f : Found) (starts : List ℕ) (reference : ℕ) → 0 < c.frame
+      → IsFirstFound c rows counts w f starts
       → IsReference c w.interval next f.phase f.offset reference
-      → IsChosen c table spec next (record { reference = reference; starts = starts_of f.row })
-  found-chosen f reference frame found is =
-      let p : Placement = record { reference = reference; starts = starts_of f.row } in
+      → IsChosen c table spec next (record { reference = reference; starts = starts })
+  found-chosen f starts reference frame found is =
+      let p : Placement = record { reference = reference; starts = starts } in
       let phase : phase_of c spec p ≡ f.phase = ap (λ n. reference / c.frame % n) (sym wanted.interval) ∙ is.phase_is in
       let offset : offset_of c p ≡ f.offset = is.offset_is in
       record {
@@ -213,7 +215,7 @@ module _ (c : Config) (table : List Placed) (rows : List Bits) (counts : List �
               subst (λ n. reference < next + n * c.frame) wanted.interval is.first in first);
           after_requests = (let after = found.at_phase.after_requests in omega arith);
           starts = lawful-of-starts c table rows spec w lawful sound are sought wanted p f.phase f.offset phase offset
-              found.phase_within found.at_phase.starts.lawful;
+              found.phase_within found.at_phase.first.lawful;
           few = few-of-room c table counts spec w p f.phase counted sought wanted phase found.phase_within sound.few
               found.room;
         };
@@ -227,7 +229,7 @@ module _ (c : Config) (table : List Placed) (rows : List Bits) (counts : List �
             | inl lower ↦ found.at_phase.before (offset_of c other) may.after_requests (omega arith) other.starts
                 (starts-of-lawful c table rows spec w lawful sound are sought wanted other f.phase (offset_of c other)
                 (later.0 ∙ phase) refl found.phase_within may.starts)
-            | inr even ↦ no-earlier f p other found refl phase offset later.0 even.0 may even.1
+            | inr even ↦ no-earlier f starts p other found refl phase offset later.0 even.0 may even.1
           ]
         ];
       }

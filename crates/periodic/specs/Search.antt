@@ -4,17 +4,14 @@ use Rattle.std.specs.List.{AllByRecursion}
 use Rattle.minislots.specs.declared.config.Config.{Config}
 use Rattle.sched_calls.specs.declared.spec.FlowSpec.{FlowSpec}
 use Rattle.sched_calls.specs.FlowSpec.{interval_frames, jitter_slots, periodic_slots, grants_of}
-use Rattle.sched_calls.specs.declared.placement.Placement.{Placement}
 use Rattle.periodic.specs.declared.TheConstants.{MAX_SPOTS}
 use Rattle.periodic.specs.declared.bits.Bits.{Bits}
 use Rattle.periodic.specs.declared.search.Wanted.{Wanted}
 use Rattle.periodic.specs.declared.row.Row.{Row}
 use Rattle.periodic.specs.declared.search.Found.{Found}
-use Rattle.periodic.specs.declared.search.Chosen.{Chosen}
 use Rattle.periodic.specs.Bits.{IsClear}
 use Rattle.periodic.specs.Rows.{row_at}
 use Rattle.periodic.specs.Placement.{group_at, FollowFrom}
-use Rattle.periodic.specs.Fields.{placement_at}
 
 -- What is looked for has an interval that divides the cycle, some grants, is not empty and fits behind the request
 -- region
@@ -123,22 +120,19 @@ pub record AreFirstStarts (c : Config) (rows : List Bits) (w : Wanted) (phase of
       → AreNoLater (group_at w.grants index starts) (group_at w.grants index others)
 
 -- The first lawful starts at the least offset of a phase
-pub record IsFirstAtPhase (c : Config) (rows : List Bits) (w : Wanted) (f : Found) : Type 0 where
+pub record IsFirstAtPhase (c : Config) (rows : List Bits) (w : Wanted) (f : Found) (starts : List ℕ) : Type 0 where
   pub after_requests : c.req_slots ≤ f.offset
   pub within : f.offset < c.frame
-  pub starts : AreFirstStarts c rows w f.phase f.offset (starts_of f.row)
+  pub first : AreFirstStarts c rows w f.phase f.offset starts
   pub before : NoneBelow c rows w f.phase f.offset
 
 -- The first lawful starts at the least offset of the least phase whose frames may have them
-pub record IsFirstFound (c : Config) (rows : List Bits) (counts : List ℕ) (w : Wanted) (f : Found) : Type 0 where
+pub record IsFirstFound (c : Config) (rows : List Bits) (counts : List ℕ) (w : Wanted) (f : Found)
+    (starts : List ℕ) : Type 0 where
   pub phase_within : f.phase < w.interval
   pub room : HasRoomAt c counts w f.phase
-  pub at_phase : IsFirstAtPhase c rows w f
+  pub at_phase : IsFirstAtPhase c rows w f starts
   pub before : NonePhase c rows counts w f.phase
-
--- the placement that was chosen
-abbrev pub chosen_placement : Chosen → Placement
-chosen_placement chosen = placement_at chosen.reference (starts_of chosen.row)
 
 -- The first nominal time at or after next, at a phase and an offset
 pub record IsReference (c : Config) (interval next phase offset reference : ℕ) : Type 0 where

@@ -1,6 +1,6 @@
 //! The starts of a placement that is looked for.
 
-ghost use Rattle.std.specs.Prelude.{◌≡◌, ◌+◌, ◌≤◌, ◌++◌, length};
+ghost use Rattle.std.specs.Prelude.{◌≡◌, ◌+◌, ◌≤◌, ◌++◌, [], length};
 ghost use Rattle.periodic.specs.declared.TheConstants.{MAX_STARTS};
 ghost use Rattle.periodic.specs.Search.{starts_of};
 
@@ -14,6 +14,24 @@ pub(crate) struct Row {
 }
 
 impl Row {
+    // A row of no starts.
+    pub(crate) fn empty() -> Row
+        ensures { starts_of result ≡ [] }
+    {
+        Row {
+            starts: [0; MAX_STARTS],
+            count: 0,
+        }
+    }
+
+    // The starts, in the order of the nominal frames.
+    pub(crate) fn starts(&self) -> &[u16]
+        requires { self.now.count ≤ MAX_STARTS }
+        ensures { result.now ≡ starts_of self.now }
+    {
+        &self.starts[..self.count]
+    }
+
     // Adds the starts of a frame.
     pub(crate) fn push(&mut self, starts: &[u16])
         requires { self.old.count + length starts.now ≤ MAX_STARTS }

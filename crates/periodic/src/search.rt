@@ -14,9 +14,9 @@ ghost use Rattle.periodic.specs.Choice.{IsChosen};
 ghost use Rattle.periodic.specs.Search.{CanBeSought, IsWantedOf, IsFreeStart, IsNextStart, AreFirstIn, HasStartsAt};
 ghost use Rattle.periodic.specs.Search.{IsNextOffset};
 ghost use Rattle.periodic.specs.Search.{HaveStartsAt, AreFirstStarts, NoneBelow, NonePhase, IsFirstAtPhase};
-ghost use Rattle.periodic.specs.Search.{IsFirstFound, IsReference, starts_of, chosen_placement};
+ghost use Rattle.periodic.specs.Search.{IsFirstFound, IsReference, starts_of};
+ghost use Rattle.periodic.specs.Fields.{placement_at};
 
-use crate::MAX_STARTS;
 use crate::bits::Bits;
 use crate::counts::Counts;
 use crate::row::Row;
@@ -55,29 +55,11 @@ pub(crate) fn wanted_of(config: &Checked, spec: &FlowSpec) -> Wanted
     }
 }
 
-// Where a placement was found.
+// Where a placement was found, whose starts stand in a row of the caller's: they are a kilobyte.
 #[derive(Clone, Copy)]
 pub(crate) struct Found {
     phase: u64,
     offset: u64,
-    row: Row,
-}
-
-// The placement that is taken.
-#[derive(Clone, Copy)]
-pub(crate) struct Chosen {
-    pub(crate) reference: u64,
-    row: Row,
-}
-
-impl Chosen {
-    // The starts, in the order of the nominal frames.
-    pub(crate) fn starts(&self) -> &[u16]
-        requires { self.now.row.count ≤ MAX_STARTS }
-        ensures { result.now ≡ starts_of self.now.row }
-    {
-        &self.row.starts[..self.row.count]
-    }
 }
 
 // The first start from `from` on with so many free minislots behind it in a frame of this length. A start that
@@ -162,7 +144,7 @@ fn starts_at(
     Ok(())
 }
 
-// The first lawful starts at the least offset of this phase. The row is for those that are tried.
+// The least offset of this phase with lawful starts, of which the row then has the first.
 fn found_at(
     rows: &[Bits],
     config: &Checked,
@@ -174,19 +156,15 @@ fn found_at(
     requires sought { CanBeSought config.now wanted }
     requires phase { phase < wanted.interval }
     ensures phase { IfSome result (λ found. found.phase ≡ phase) }
-    ensures found { IfSome result (IsFirstAtPhase config.now rows.now wanted) }
-    ensures most { IfSome result (λ found. found.row.count ≤ MAX_STARTS) }
+    ensures found { IfSome result (λ found. IsFirstAtPhase config.now rows.now wanted found (starts_of row.new)) }
+    ensures most { IfSome result (λ found. row.new.count ≤ MAX_STARTS) }
     ensures absent { IfNone result (NoneBelow config.now rows.now wanted phase config.now.frame) }
 {
     let mut offset = u64::from(config.req_slots());
     'offsets: while offset < u64::from(config.frame()) {
         match starts_at(rows, config, wanted, phase, offset, row) {
             Ok(()) => {
-                return Some(Found {
-                    phase,
-                    offset,
-                    row: *row,
-                });
+                return Some(Found { phase, offset });
             }
             Err(next) => offset = next,
         }
@@ -213,28 +191,26 @@ fn learn(rows: &[Bits], widest: &mut Widest, config: &Checked, wanted: Wanted, p
     }
 }
 
-// The first lawful starts at the least offset of the least phase. A phase with a frame that has its starts, or is known
-// to have no room, is turned away without a look at its bits.
+// The least offset of the least phase with lawful starts, of which the row then has the first. A phase with a frame
+// that has its starts, or is known to have no room, is turned away without a look at its bits.
 fn first_found(
     rows: &[Bits],
     counts: &Counts,
     widest: &mut Widest,
     config: &Checked,
     wanted: Wanted,
+    row: &mut Row,
 ) -> Option<Found>
     requires long { length rows.now ≡ config.now.cycle }
     requires sought { CanBeSought config.now wanted }
     requires bounded { AreBounds config.now rows.now widest.old.most }
-    ensures found { IfSome result (IsFirstFound config.now rows.now counts.now.starts wanted) }
-    ensures most { IfSome result (λ found. found.row.count ≤ MAX_STARTS) }
+    ensures found { IfSome result
+        (λ found. IsFirstFound config.now rows.now counts.now.starts wanted found (starts_of row.new)) }
+    ensures most { IfSome result (λ found. row.new.count ≤ MAX_STARTS) }
     ensures absent { IfNone result
         (NonePhase config.now rows.now counts.now.starts wanted wanted.interval) }
     ensures bounded { AreBounds config.now rows.now widest.new.most }
 {
-    let mut row = Row {
-        starts: [0; MAX_STARTS],
-        count: 0,
-    };
     for phase in 0..wanted.interval {
         if widest.lacks(config, wanted, phase) {
             continue;
@@ -242,7 +218,7 @@ fn first_found(
         if !counts.has_room(config, wanted, phase) {
             continue;
         }
-        if let Some(found) = found_at(rows, config, wanted, phase, &mut row) {
+        if let Some(found) = found_at(rows, config, wanted, phase, row) {
             return Some(found);
         }
         learn(rows, widest, config, wanted, phase);
@@ -272,7 +248,7 @@ pub(crate) fn first_nominal(
 }
 
 // The lawful placement of the least phase, then the least offset, then the least starts in each frame, beside the
-// flows whose minislots these rows have, and whose starts these counts.
+// flows whose minislots these rows have, and whose starts these counts: its reference, and in the row its starts.
 pub(crate) fn choose(
     rows: &[Bits],
     counts: &Counts,
@@ -280,7 +256,8 @@ pub(crate) fn choose(
     config: &Checked,
     spec: &FlowSpec,
     next: u64,
-) -> Option<Chosen>
+    row: &mut Row,
+) -> Option<u64>
     requires long { length rows.now ≡ config.now.cycle }
     requires bounded { AreBounds config.now rows.now widest.old.most }
     requires periodic { is_periodic spec.now ≡ true }
@@ -290,8 +267,8 @@ pub(crate) fn choose(
     ensures chosen { (placed : List Placed)
         → AreSound config.now placed → AreRowsOf config.now placed rows.now
         → AreCounts config.now placed counts.now.starts → IfSome result
-        (λ chosen. IsChosen config.now placed spec.now next (chosen_placement chosen)) }
-    ensures count { IfSome result (λ chosen. chosen.row.count ≤ MAX_STARTS) }
+        (λ reference. IsChosen config.now placed spec.now next (placement_at reference (starts_of row.new))) }
+    ensures count { IfSome result (λ _. row.new.count ≤ MAX_STARTS) }
     ensures absent { (placed : List Placed)
         → AreSound config.now placed → AreRowsOf config.now placed rows.now
         → AreCounts config.now placed counts.now.starts
@@ -299,12 +276,8 @@ pub(crate) fn choose(
     ensures bounded { AreBounds config.now rows.now widest.new.most }
 {
     let wanted = wanted_of(config, spec);
-    let Some(found) = first_found(rows, counts, widest, config, wanted) else {
+    let Some(found) = first_found(rows, counts, widest, config, wanted, row) else {
         return None;
     };
-    let reference = first_nominal(config, wanted.interval, next, found.phase, found.offset);
-    Some(Chosen {
-        reference,
-        row: found.row,
-    })
+    Some(first_nominal(config, wanted.interval, next, found.phase, found.offset))
 }

@@ -9,7 +9,7 @@ ghost use Rattle.periodic.specs.declared.TheConstants.{MAX_SPOTS, MAX_STARTS};
 ghost use Rattle.periodic.specs.Placement.{due_in, IsPlacement, NoPlacement};
 ghost use Rattle.periodic.specs.Choice.{IsChosen};
 ghost use Rattle.periodic.specs.Fields.{placement_at};
-ghost use Rattle.periodic.specs.Search.{chosen_placement};
+ghost use Rattle.periodic.specs.Search.{starts_of};
 ghost use Rattle.periodic.specs.Table.{placed_grants, IsPlaced, IsNotPlaced, HasPlacement, placed_at, with_placed};
 ghost use Rattle.periodic.specs.Table.{without, AreSound, IsWithinFrame, FollowInTurn};
 
@@ -22,7 +22,8 @@ use crate::bits::Bits;
 use crate::counts::Counts;
 use crate::group::{Group, fill, put_in, room_for, take_out};
 use crate::placement::{PlaceFault, Spot};
-use crate::search::{Chosen, choose};
+use crate::row::Row;
+use crate::search::choose;
 use crate::spots::{PlacedFlow, mark, sort};
 use crate::widest::Widest;
 use minislots::Checked;
@@ -142,10 +143,11 @@ impl Table {
             → HasPlacement self.old.config self.old.placed spec.now next }
         ensures err { OnErr result (self.new ≡ self.old) }
     {
-        let Some(chosen) = self.chosen(spec, next) else {
+        let mut row = Row::empty();
+        let Some(reference) = self.chosen(spec, next, &mut row) else {
             return Err(PlaceFault::NoPlace);
         };
-        match self.add(sid, *spec, chosen.reference, chosen.starts()) {
+        match self.add(sid, *spec, reference, row.starts()) {
             Ok(placement) => Ok(placement),
             Err(_) => Err(PlaceFault::Memory),
         }
@@ -226,15 +228,16 @@ impl Table {
         count
     }
 
-    // The placement that is taken for these parameters from `next` on, if there is one.
-    fn chosen(&mut self, spec: &FlowSpec, next: u64) -> Option<Chosen>
+    // The placement that is taken for these parameters from `next` on, if there is one: its reference, and in the row
+    // its starts.
+    fn chosen(&mut self, spec: &FlowSpec, next: u64, row: &mut Row) -> Option<u64>
         requires periodic { is_periodic spec.now ≡ true }
         requires no_fault { first_fault self.old.config spec.now ≡ None }
         requires aligned { next % self.old.config.frame ≡ 0 }
         requires most { next ≤ 2 ^ 61 }
-        ensures chosen { IfSome result (λ chosen.
-            IsChosen self.old.config self.old.placed spec.now next (chosen_placement chosen)) }
-        ensures count { IfSome result (λ chosen. chosen.row.count ≤ MAX_STARTS) }
+        ensures chosen { IfSome result (λ reference. IsChosen self.old.config self.old.placed
+            spec.now next (placement_at reference (starts_of row.new))) }
+        ensures count { IfSome result (λ _. row.new.count ≤ MAX_STARTS) }
         ensures absent { IfNone result (NoPlacement self.old.config self.old.placed spec.now next) }
         ensures same { self.new ≡ self.old }
     {
@@ -245,6 +248,7 @@ impl Table {
             &self.config,
             spec,
             next,
+            row,
         )
     }
 

@@ -10,7 +10,7 @@ ghost use Rattle.periodic.specs.Bits.{bit_for};
 ghost use Rattle.periodic.specs.Rows.{row_at, AreMarked, AreBounds};
 ghost use Rattle.periodic.specs.Counts.{AreCounted, MayCount};
 ghost use Rattle.periodic.specs.Fields.{placed_of, placement_at, KeepsTimes, IsSoundFlow};
-ghost use Rattle.periodic.specs.Search.{chosen_placement};
+ghost use Rattle.periodic.specs.Search.{starts_of};
 ghost use Rattle.periodic.specs.Table.{placed_grants, placed_at, IsPlaced, HasPlacement, with_placed, without};
 
 use super::Table;
@@ -19,7 +19,8 @@ use crate::bits::Bits;
 use crate::counts::Counts;
 use crate::group::{close_all, flow_of, lift_out, put_in, room_for};
 use crate::placement::PlaceFault;
-use crate::search::{Chosen, choose};
+use crate::row::Row;
+use crate::search::choose;
 use crate::spots::{PlacedFlow, mark};
 use crate::widest::Widest;
 use minislots::Checked;
@@ -60,11 +61,12 @@ impl Table {
             → HasPlacement self.old.config (without sid self.old.placed) spec.now next }
         ensures err { OnErr result (self.new ≡ self.old) }
     {
-        let Some(chosen) = self.chosen_without(sid, spec, next) else {
+        let mut row = Row::empty();
+        let Some(reference) = self.chosen_without(sid, spec, next, &mut row) else {
             return Err(PlaceFault::NoPlace);
         };
         let alloc = *self.groups.allocator();
-        let Ok((kept, answer)) = copies_of(alloc, chosen.reference, chosen.starts(), twice) else {
+        let Ok((kept, answer)) = copies_of(alloc, reference, row.starts(), twice) else {
             return Err(PlaceFault::Memory);
         };
         match self.move_to(sid, *spec, kept) {
@@ -126,19 +128,22 @@ impl Table {
             → HasPlacement self.old.config (without sid self.old.placed) spec.now next }
         ensures same { self.new ≡ self.old }
     {
-        self.chosen_without(sid, spec, next).is_none()
+        let mut row = Row::empty();
+        let reference = self.chosen_without(sid, spec, next, &mut row);
+        reference.is_none()
     }
 
-    // The placement that is taken for these parameters from `next` on beside the flows but that of this SID.
-    fn chosen_without(&mut self, sid: u16, spec: &FlowSpec, next: u64) -> Option<Chosen>
+    // The placement that is taken for these parameters from `next` on beside the flows but that of this SID: its
+    // reference, and in the row its starts.
+    fn chosen_without(&mut self, sid: u16, spec: &FlowSpec, next: u64, row: &mut Row) -> Option<u64>
         requires placed { IsPlaced sid self.old.placed }
         requires periodic { is_periodic spec.now ≡ true }
         requires no_fault { first_fault self.old.config spec.now ≡ None }
         requires aligned { next % self.old.config.frame ≡ 0 }
         requires most { next ≤ 2 ^ 61 }
-        ensures chosen { IfSome result (λ chosen. IsChosen self.old.config
-            (without sid self.old.placed) spec.now next (chosen_placement chosen)) }
-        ensures count { IfSome result (λ chosen. chosen.row.count ≤ MAX_STARTS) }
+        ensures chosen { IfSome result (λ reference. IsChosen self.old.config (without sid self.old.placed)
+            spec.now next (placement_at reference (starts_of row.new))) }
+        ensures count { IfSome result (λ _. row.new.count ≤ MAX_STARTS) }
         ensures absent { IfNone result
             (NoPlacement self.old.config (without sid self.old.placed) spec.now next) }
         ensures same { self.new ≡ self.old }
@@ -162,6 +167,7 @@ impl Table {
             config,
             spec,
             next,
+            row,
         );
         lift(
             &mut self.rows,

@@ -3,7 +3,8 @@ use Rattle.std.proofs.Common.{◌≡◌, refl, sym, Result, Err}
 use Rattle.sched_calls.specs.declared.placement.Placement.{Placement}
 use Rattle.periodic.specs.declared.placement.PlaceFault.{PlaceFault}
 use Rattle.periodic.specs.declared.placement.PlaceFault.TheVariants.{NoPlace, Memory}
-use Rattle.periodic.specs.Search.{chosen_placement}
+use Rattle.periodic.specs.Fields.{placement_at}
+use Rattle.periodic.specs.Search.{starts_of}
 use Rattle.periodic.proofs.table.Table.place.Goals as goal
 
 differ : ◌≡◌ {A = Result Placement PlaceFault} (Err Memory) (Err NoPlace) → ⊥
@@ -12,7 +13,7 @@ differ same = cc
 pub returns-in-Err-clause-no_place : goal.returns-in-Err-clause-no_place
 returns-in-Err-clause-no_place c = (
   λ is. absurd (differ is),
-  λ none. absurd (none (chosen_placement c.in-Some.chosen) c.in-Some.ensures.chosen.lawful),
+  λ none. absurd (none (placement_at c.in-Some.reference (starts_of c.chosen.new.row)) c.in-Some.ensures.chosen.lawful),
 )
 
 pub returns-in_default-clause-no_place : goal.returns-in_default-clause-no_place
