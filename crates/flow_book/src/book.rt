@@ -333,7 +333,7 @@ impl Book {
         } else {
             queue_of(self.flows.allocator(), &self.flows)?
         };
-        Overlay::over(self.config, &self.flows, queue)
+        Overlay::over(&self.config, &self.flows, queue)
     }
 
     /// The flows that the MAP of an overlay shows by pending grants, in order of SID, and its acknowledge time, where all

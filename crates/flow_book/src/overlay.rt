@@ -76,14 +76,14 @@ impl Model for Overlay {
 impl Overlay {
     // That of a book with these flows and this queue, before any grant.
     pub(crate) fn over(
-        config: Checked,
+        config: &Checked,
         flows: &Flows,
         queue: Vec<Waiting>,
     ) -> Result<Overlay, AllocError>
-        requires book { IsBook config flows.now }
+        requires book { IsBook config.now flows.now }
         requires queue { IsQueue flows.now queue.items }
         ensures { IfOk result (λ overlay. overlay ≡ record {
-          config = config;
+          config = config.now;
           before = map live flows.now;
           flows = map live flows.now;
         }) }
@@ -92,7 +92,7 @@ impl Overlay {
         let served = room_for_served(&queue, is_long)?;
         let before = list_of(flows);
         Ok(Overlay {
-            config,
+            config: *config,
             queue,
             first: 0,
             served,
