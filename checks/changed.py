@@ -2,7 +2,7 @@
 their laws hold. It is read in the entries alone, and knows nothing of how a MAP is made or a placement is found."""
 
 from plain_bursts import Bursts
-from reached import INITIAL, REQUEST, STATION, Map
+from reached import REQUEST, Following
 from texts import LIMITS
 
 CHANGES = {
@@ -36,6 +36,9 @@ CHANGES = {
     "a refused change wakes no flow", "a flow has its grants again",
     "data stand in minislots that a flow left which rests", "nobody has minislots that a flow left which rests",
     "an opportunity stands in minislots that a flow left which rests",
+    "minislots that a flow left which rests are open",
+    "a MAP that settles leaves out what is polled", "a MAP that settles leaves out what is unsolicited",
+    "a MAP that settles leaves out the poll of a flow that rests",
     "a flow that rests asks, and is refused", "a flow is admitted beside one that rests",
     "a rest is refused, for the flow is not unsolicited", "a wake is refused, for the flow is not unsolicited",
     "a rest is refused, for a poll is longer than its grant", "a rest of no flow is refused",
@@ -80,6 +83,7 @@ class Changed:
         self.lives, self.next, self.shown, self.left = {}, config["start"], set(), []
         self.most = config.get("periodic", LIMITS["periodic"])
         self.events, self.faults, self.place = set(), [], 0
+        self.following, self.found = Following(config), None
 
     def says(self, event, where=True):
         if where:
@@ -91,7 +95,7 @@ class Changed:
 
     def read(self, entries):
         for self.place, entry in enumerate(entries):
-            call, reply = entry["call"], entry["reply"]
+            call, reply, self.found = entry["call"], entry["reply"], self.following.follow(entry)
             kind = "refused" if reply["kind"] == "refused" else "read"
             read = getattr(self, f"{kind}_{call['call']}", None)
             if read:
@@ -299,8 +303,11 @@ class Changed:
         self.next = reply["next"]
 
     def read_build(self, call, reply):
-        found, start = Map(reply), reply["start"]
-        self.is_on_time(found, start // self.frame % self.config["cycle"])
+        found, start = self.found, reply["start"]
+        if found.settles:
+            self.leaves_out(start // self.frame % self.config["cycle"])
+        else:
+            self.is_on_time(found, start // self.frame % self.config["cycle"])
         for place, (sid, _, offset, _, count) in enumerate(found.grants):
             self.grant(self.lives[sid], start + offset, count)
             is_first = place == 0 and self.lives[sid].is_raised
@@ -325,6 +332,13 @@ class Changed:
         was, life.granted = life.granted, life.granted + count
         self.says("a request that replaced others is served whole",
                   any(is_new and was < asked <= life.granted for asked, is_new in life.requests))
+
+    def leaves_out(self, place):
+        """A MAP that settles has nothing periodic."""
+        stands = [life for life in self.lives.values() if life.placed.get(place)]
+        for life in stands:
+            kind = "the poll of a flow that rests" if life.rests else f"what is {life.kind()}"
+            self.says(f"a MAP that settles leaves out {kind}")
 
     def is_on_time(self, found, place):
         """Each flow has what its placement wants in this frame, and no other stands there that is periodic."""
@@ -352,9 +366,11 @@ class Changed:
         for sid, usage, offset, slots, count in found.front:
             if left & {*range(offset, offset + slots)}:
                 self.says("data stand in minislots that a flow left which rests", count > 0)
-                self.says("an opportunity stands in minislots that a flow left which rests",
-                          count == 0 and usage in (INITIAL, STATION))
-                self.says("nobody has minislots that a flow left which rests", sid == 0)
+                it = (sid, usage, offset, slots, count)
+                self.says("an opportunity stands in minislots that a flow left which rests", it in found.opportunities)
+                is_idle = it in found.idles
+                self.says("nobody has minislots that a flow left which rests", is_idle)
+                self.says("minislots that a flow left which rests are open", is_idle and sid)
         stops = {it[2] for it in found.periodic} | {self.frame}
         self.breaks("an idle that ends where nothing stands", any(it[2] + it[3] not in stops for it in found.idles))
 

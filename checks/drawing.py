@@ -2,7 +2,7 @@
 meet; and the text of their histories. A third of the channels have burst profiles (drawn_bursts.py)."""
 
 from drawn_bursts import profile, with_bursts
-from plain import HEADING, LAST_CLOCK, MOST_BYTES, Scheduler, line_of
+from plain import ALL_MODEMS, HEADING, LAST_CLOCK, MOST_BYTES, PRIORITIES, SIDS, Scheduler, line_of
 from texts import LEFT_OUT, LIMITS, MISSING, PROFILES, completed
 
 
@@ -11,6 +11,12 @@ def shuffled(draw, members):
     names = [*members]
     draw.shuffle(names)
     return {name: members[name] for name in names}
+
+
+# The usages of opportunities, those first that come more often; and the SIDs at which the ranges of theirs begin and
+# end, and those beside.
+USAGES = ["initial"] * 4 + ["station"] * 4 + ["request", "quiet", "data", "initial_to"] * 2
+EDGES = [0, 1, 8191, 8192, 15872, 15873, 16127, 16128, ALL_MODEMS - 1, ALL_MODEMS, 2**16 - 1]
 
 
 def best_effort(priority):
@@ -25,7 +31,7 @@ class Drawing:
 
     def __init__(self, random_numbers):
         self.draw = random_numbers
-        self.config = self.drawn_config()
+        self.config = self.with_idles(self.drawn_config())
         self.told = self.spelled()
         self.plain = Scheduler(self.config)
         self.sids = [self.draw.randint(1, 8191) for _ in range(self.draw.choice([3, 12, 12, 100]))]
@@ -33,6 +39,7 @@ class Drawing:
         kinds = ["best_effort", "polled", "unsolicited"]
         self.kinds = self.draw.choice([kinds, kinds + kinds[:1] * 6, kinds[1:], kinds[2:]])
         self.ranging = self.draw.choice([[], ["reserve"] * 3 + ["header"], ["reserve"] * 24 + ["header"]])
+        self.ranging = self.ranging + ["header"] * ("settle" in self.config)
         few = ["replace"] * 3 + ["change"] * 3 + ["rest", "wake"]
         self.changing = self.draw.choice([[], [], few, few * 3])
         edges = self.edges()
@@ -40,8 +47,11 @@ class Drawing:
         self.sizes = self.draw.choice([[0, 1, 20, 60, 60, 200, 200, 5000], [1, 1, 8], [*edges, 20]])
         room = self.config["frame"] - self.config["req_slots"]
         self.asked = self.asked_minislots(room)
+        self.usages = self.draw.choice([USAGES, USAGES, USAGES[:8]])
+        # one in three is as long as bursts are
+        bursts = [self.plain.bursts.length(it) for it in (1, 64, 100, *edges)]
         self.lengths = self.draw.choice([[1, 2, 4, 4, 8, room // 3, room - 1, room, room, room + 1, 0, 2**32 - 1],
-                                         [1, 1, 1, 2], [3, 4, 6, 10]])
+                                         [1, 1, 1, 2], [3, 4, 6, 10], [*bursts, *(it - 1 for it in bursts)]])
 
     def edges(self):
         """Two numbers of bytes at which a burst gets longer or is sent by another profile, each with the next one."""
@@ -101,6 +111,14 @@ class Drawing:
         limits = {"flows": draw.choice([64, 64, 63, 65, 8191]), "pending": draw.choice([64, 64, 63, 65, 125])}
         limits |= {"periodic": draw.choice([40, 40, 39, 41, 2560])}
         return {name: number for name, number in limits.items() if number != MISSING[name]}
+
+    def with_idles(self, config):
+        """The configuration with idles that are open or not, and MAPs that settle or not behind a change of the UCD
+        count: for less than a frame, for one or for several, to the minislot."""
+        draw, frame = self.draw, config["frame"]
+        some = [1, frame - 1, frame, frame, frame + 1, frame + 1, 2 * frame, 2 * frame + 1, 3 * frame]
+        settle = draw.choice([0] * 10 + some + [draw.choice([draw.randint(1, 5 * frame), 4096])])
+        return completed({**config, "open_idle": draw.randint(0, 1), "settle": min(settle, 4096)})
 
     def times(self):
         """An interval of whole frames that part the cycle, or mostly so, and a jitter."""
@@ -172,8 +190,9 @@ class Drawing:
         if kind == "reserve":
             return self.reserve()
         if kind == "header":
-            return {"call": kind, **{key: self.draw.choice([*range(16)] * 3 + [16, 255]) for key in HEADING}}
-        return {"call": kind, "now": self.clock()}
+            return self.header()
+        late = self.draw.choice([0, 0, 1, 1, 2, 3]) * self.config["frame"] if kind == "skip" else 0
+        return {"call": kind, "now": self.clock() + late}
 
     def change(self, sid):
         """A change of some parameters of a live flow, or of all, mostly to those of its kind."""
@@ -200,10 +219,31 @@ class Drawing:
 
     def reserve(self):
         """A Reserve, mostly short and of a length that a frame has."""
-        slots = self.draw.choice(self.lengths)
-        if self.draw.random() < 0.5:
-            return {"call": "reserve", "usage": "initial", "slots": slots}
-        return {"call": "reserve", "usage": "station", "sid": self.sid(self.draw.random() < 0.5), "slots": slots}
+        usage = self.draw.choice(self.usages)
+        to = {"sid": self.sid_for(usage)} if SIDS[usage] else {}
+        return {"call": "reserve", "usage": usage, **to, "slots": self.draw.choice(self.lengths)}
+
+    def lawful_reserve(self, slots):
+        """A Reserve of so many minislots, of any usage, whose SID is lawful."""
+        usage = self.draw.choice(self.usages)
+        to = {"sid": self.draw.choice(self.draw.choice(SIDS[usage]))} if SIDS[usage] else {}
+        return {"call": "reserve", "usage": usage, **to, "slots": slots}
+
+    def sid_for(self, usage):
+        """Whom an opportunity goes to: a modem whose flow lives or not; requests may go to those of a priority or all.
+        """
+        drawn = self.draw.random()
+        if drawn < 0.15:
+            return self.draw.choice(EDGES)
+        if usage == "request" and drawn < 0.5:
+            return self.draw.choice([*PRIORITIES, *[ALL_MODEMS] * 300])
+        return self.sid(self.draw.random() < 0.5)
+
+    def header(self):
+        """A header: its UCD count may be that of the last header or of the configuration."""
+        drawn = {key: self.draw.choice([*range(16)] * 3 + [16, 255]) for key in HEADING}
+        last, own = self.plain.heading["ucd_count"], self.config["ucd_count"]
+        return {"call": "header", **drawn, "ucd_count": self.draw.choice([*[drawn["ucd_count"]] * 3, last, own])}
 
     def build(self):
         """A build of the next frame, which is not refused."""
@@ -214,6 +254,8 @@ class Drawing:
         return iter(())
 
     def calls(self):
+        if "settle" in self.config and self.draw.random() < 0.2:
+            yield self.header()
         yield from self.begun()
         for _ in range(self.draw.choice(self.MORE)):
             yield self.next_call()
@@ -249,21 +291,32 @@ class Changing(Drawing):
 
 class Blocked(Drawing):
     """A script that begins with Reserves for which a poll in each frame leaves no room, and as many MAPs as let them
-    lapse, or nearly so."""
+    lapse, or nearly so; MAPs that settle may stand between."""
 
     def drawn_config(self):
         return {**super().drawn_config(), "calls": 1000, "ticks": 4, "cycle": 1}
+
+    def with_idles(self, config):
+        """MAPs settle in most."""
+        drawn, some = super().with_idles(config), self.draw.choice([0, 1, config["frame"], config["frame"] + 1])
+        return drawn if "settle" in drawn else completed({**drawn, "settle": some})
 
     def begun(self):
         frame, region = self.config["frame"], self.config["req_slots"]
         times = {"interval_us": 25 * frame, "jitter_us": 0}
         yield {"call": "admit", "sid": 8191, "flow": {"kind": "polled", **times, "rate": 0, "burst": 0}}
         for _ in range(self.draw.choice([1, 15, 16, 17, 40, 65])):
-            yield {"call": "reserve", "usage": "initial", "slots": frame - region}
-        for _ in range(self.draw.choice([62, 63, 63, 64, 65])):
+            yield self.lawful_reserve(frame - region)
+        last = self.plain.maps + self.draw.choice([62, 63, 63, 64, 65])
+        headers = self.draw.sample(range(62), 3) if "settle" in self.config else []
+        for number in range(300):
+            if self.plain.maps == last:
+                break
+            if number in headers:
+                yield self.header()
             yield self.build()
             if self.draw.random() < 0.1:
-                yield {"call": "reserve", "usage": "initial", "slots": self.draw.randint(1, 4)}
+                yield self.lawful_reserve(self.draw.randint(1, 4))
         if self.draw.random() < 0.6:
             yield {"call": "remove", "sid": 8191}
             yield self.build()
@@ -315,7 +368,7 @@ class Crowded(Drawing):
             yield {"call": "ask", "receiver": 0, "sid": sid, "bytes": 6400, "heard": heard}
         slots = self.draw.choice([[2], [2, 2, 2, 1, 3], [2, self.config["frame"] - 1]])
         for _ in range(self.draw.choice([0, 1, 15, 16, 17, 20])):
-            yield {"call": "reserve", "usage": "initial", "slots": self.draw.choice(slots)}
+            yield self.lawful_reserve(self.draw.choice(slots))
         yield self.build()
         yield self.build()
 
@@ -371,6 +424,32 @@ class Limited(Drawing):
         heard = self.draw.randint(min(least, last), last)
         kind = self.draw.choice(["ask"] * 3 + (["replace"] if self.changing else []))
         return {"call": kind, "receiver": receiver, "sid": sid, **self.amount(kind), "heard": max(0, heard)}
+
+
+class Settling(Limited):
+    """A script on a channel on which MAPs settle, whose headers often have another count, or that of one before, and
+    that often leaves frames out."""
+
+    MORE, FRAMES = (60, 150), (16, 40, 40, 64)
+
+    def __init__(self, random_numbers):
+        super().__init__(random_numbers)
+        self.ranging = ["header"] * 4 + ["skip"] * 3 + ["reserve"] * self.draw.choice([0, 1, 3])
+        self.builds, self.changing = 16, ["rest", "wake"]
+        self.kinds = self.draw.choice([["best_effort"], ["best_effort", "polled", "unsolicited"]])
+
+    def limits(self):
+        return {"pending": self.draw.choice([1, 1, 2, 64])}
+
+    def with_idles(self, config):
+        frame = config["frame"]
+        frames = self.draw.choice([frame, 2 * frame, 3 * frame, 6 * frame])
+        settle = self.draw.choice([1, frame - 1, frames, frames, frames + 1])
+        return completed({**config, "open_idle": self.draw.randint(0, 1), "settle": settle})
+
+    def header(self):
+        own = self.config["ucd_count"]
+        return {**super().header(), "ucd_count": self.draw.choice([own, own, own ^ 1, own ^ 1, own ^ 128])}
 
 
 class Waiting(Limited):
@@ -458,9 +537,9 @@ def limited_of(random_numbers):
 
 
 def drawing_of(random_numbers):
-    """A drawn script: of ten one changes its flows often, one begins so that Reserves lapse, and one so that its MAPs
-    are crowded."""
-    return random_numbers.choice([Drawing] * 7 + [Changing, Blocked, Crowded])(random_numbers)
+    """A drawn script: of eleven one changes its flows often, one settles often, one begins so that Reserves lapse, and
+    one so that its MAPs are crowded."""
+    return random_numbers.choice([Drawing] * 7 + [Changing, Settling, Blocked, Crowded])(random_numbers)
 
 
 def as_written(entries):

@@ -6,7 +6,8 @@
 #include <mapsched.h>
 #include <string.h>
 
-enum { MOST_CALLS = 300, MOST_SIDS = 100, MOST_RECEIVERS = 3, AHEAD = 4096 };
+/* Opportunities have six usages, whose numbers begin with that of MAPSCHED_INITIAL. */
+enum { MOST_CALLS = 300, MOST_SIDS = 100, MOST_RECEIVERS = 3, AHEAD = 4096, USAGES = 6 };
 
 #define COUNT(list) (sizeof(list) / sizeof *(list))
 #define ONE_OF(list) ((list)[below(COUNT(list))])
@@ -84,6 +85,17 @@ static void draw_limits(struct mapsched_config *config) {
   state = kept;
 }
 
+/* Idles that are open, and MAPs that settle behind a change of the UCD count: for less than a frame, for one or for
+ * several. The other numbers of a script are drawn as without these. */
+static void draw_idles(struct mapsched_config *config) {
+  uint64_t kept = state;
+  uint32_t frame = config->frame, settles[] = {1, frame - 1, frame, frame + 1, 2 * frame + 1, 3 * frame, AHEAD};
+  state ^= UINT64_C(0x5851f42d4c957f2d);
+  config->open_idle = (uint8_t)below(2);
+  if (is_one_in(3)) config->settle = ONE_OF(settles);
+  state = kept;
+}
+
 /* A lawful configuration. */
 static struct mapsched_config drawn_config(void) {
   static const uint32_t frames[] = {16, 40, 40, 64, 100, 150, 256, 1024}, slots[] = {8, 16, 32, 64, 100};
@@ -121,6 +133,7 @@ static struct mapsched_config drawn_config(void) {
     if (!is_one_in(3)) draw_bursts(&config);
   }
   draw_limits(&config);
+  draw_idles(&config);
   return config;
 }
 
@@ -135,6 +148,7 @@ static void begin_drawing(uint64_t seed) {
   for (size_t i = 0; i < drawing.sids; i++) drawing.sid[i] = (uint16_t)(1 + below(MAPSCHED_MAX_SID));
   drawing.admissions = ONE_OF(admissions);
   drawing.ranging = ONE_OF(ranging);
+  if (drawing.config.settle && !drawing.ranging) drawing.ranging = 1;
   drawing.changes = ONE_OF(changes);
   drawing.kinds = ONE_OF(kinds);
   drawing.has_small_grants = is_one_in(2);
@@ -264,19 +278,24 @@ static struct mapsched_call drawn_changing(void) {
   return (struct mapsched_call){.kind = kind == 4 ? MAPSCHED_REST : MAPSCHED_WAKE, .sid = drawn_sid(1)};
 }
 
-/* An opportunity, mostly short and of a length that a frame has, and seldom of no usage. */
+/* An opportunity of any usage, mostly short and of a length that a frame has, and seldom of no usage. Its SID may be at
+ * an end of those of modems, or of those that requests may have beside them. */
 static struct mapsched_call drawn_reserve(void) {
+  static const uint16_t edges[] = {
+    0, 1, MAPSCHED_MAX_SID, MAPSCHED_MAX_SID + 1, 15872, 15873, 16127, 16128, 16382, 16383, UINT16_MAX};
   uint32_t room = drawing.config.frame - drawing.config.req_slots;
   uint32_t slots[] = {1, 1, 2, 4, 4, 8, room / 3, room - 1, room, room, room + 1, 0, UINT32_MAX};
-  struct mapsched_call call = {.kind = MAPSCHED_RESERVE, .usage = (uint32_t)below(2), .slots = ONE_OF(slots)};
-  if (call.usage == MAPSCHED_STATION) call.sid = drawn_sid(is_one_in(2));
-  if (is_one_in(100)) call.usage = 2 + (uint32_t)below(UINT32_MAX - 1);
+  struct mapsched_call call = {.kind = MAPSCHED_RESERVE, .usage = (uint32_t)below(USAGES), .slots = ONE_OF(slots)};
+  if (call.usage != MAPSCHED_INITIAL && call.usage != MAPSCHED_QUIET)
+    call.sid = is_one_in(4) ? ONE_OF(edges) : drawn_sid(is_one_in(2));
+  if (is_one_in(100)) call.usage = USAGES + (uint32_t)below(UINT32_MAX - USAGES + UINT64_C(1));
   return call;
 }
 
-/* A header, and seldom one with an exponent that is none. */
+/* A header, and seldom one with an exponent that is none. Where MAPs settle it may have the configuration's count. */
 static struct mapsched_call drawn_header(void) {
   struct mapsched_call call = {.kind = MAPSCHED_HEADER, .ucd_count = (uint8_t)below(256)};
+  if (drawing.config.settle && is_one_in(3)) call.ucd_count = drawing.config.ucd_count;
   uint8_t *const exponents[] = {&call.ranging_start, &call.ranging_end, &call.data_start, &call.data_end};
   for (size_t i = 0; i < COUNT(exponents); i++) *exponents[i] = (uint8_t)(is_one_in(20) ? 16 + below(240) : below(16));
   return call;

@@ -21,7 +21,7 @@ PAIR = re.compile(rf'({LABEL})="({VALUE})"')
 # The ends of the names of a type's samples.
 ENDS = {"counter": {"_total"}, "gauge": {""}, "summary": {"", "_count", "_sum"}, "info": {"_info"}}
 QUANTILES = re.compile(r"0\.[0-9]*[1-9]|0\.0|1\.0")
-TICK, MINISLOTS = Fraction(625, 10 ** 8), ("data", "idle", "opportunity", "poll", "request", "unsolicited")
+TICK = Fraction(625, 10 ** 8)
 CALLS = ("admit", "ask", "build", "change", "header", "heard", "remove", "replace", "reserve", "rest", "skip", "status",
          "wake")
 
@@ -135,7 +135,7 @@ class Wanted:
             self.add("calls_total", told["calls"].get(it, 0), call=it)
         for it in range(1, 24):
             self.add("refusals_total", told["refused"].get(str(it), 0), number=it)
-        for it in MINISLOTS:
+        for it in told["use"]:
             self.add_time("use_seconds_total", told["use"][it], use=it)
 
     def delays(self, name, delay, **labels):

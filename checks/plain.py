@@ -15,6 +15,11 @@ ALL_MODEMS, REQUEST, INITIAL, STATION, NULL = 0x3FFF, 1, 3, 4, 7
 MOST_GRANTS, MOST_TOGETHER = 93, 157
 MOST_BYTES, LAST_CLOCK, AHEAD = 1048560, 2**60, 4096
 MOST_RESERVES, MOST_WAITING, LAST_MAP = 64, 16, 64
+# The SIDs that an opportunity of each usage may go to: those of modems, of requests of a priority, and of all modems.
+# An opportunity of another usage has none.
+MODEMS, PRIORITIES = range(1, 8192), range(15873, 16128)
+SIDS = {name: [MODEMS] for name in ("initial_to", "station", "data")}
+SIDS |= {"request": [MODEMS, PRIORITIES, [ALL_MODEMS]], "initial": [], "quiet": []}
 HEADING = ["ucd_count", "ranging_start", "ranging_end", "data_start", "data_end"]
 # The parameters that a flow's place in the cycle goes by, and those of its ceiling.
 PLACING, CEILING = ("interval_us", "jitter_us", "size", "grants"), ("rate", "burst")
@@ -90,18 +95,20 @@ class Flow:
 
 
 class Wanted:
-    """An opportunity that was reserved: SID, usage and minislots; how many MAPs came before, and which one has it."""
+    """An opportunity that was reserved: SID, usage code and minislots; how many MAPs came before that do not settle,
+    and which one of them has it."""
 
     def __init__(self, sid, usage, slots, maps):
         self.sid, self.usage, self.slots, self.maps, self.met = sid, usage, slots, maps, None
 
 
-# The lawful values of the limits, whose faults go on behind those of the fields before them.
-LAWFUL, FIRST_FAULT = {"flows": (1, 8191), "pending": (1, 125), "periodic": (0, 2560)}, 21
+# The lawful values of the fields that a history may lack, whose faults go on behind those of the fields before them.
+LAWFUL = {"flows": (1, 8191), "pending": (1, 125), "periodic": (0, 2560), "open_idle": (0, 1), "settle": (0, 4096)}
+FIRST_FAULT = 21
 
 
 def fault_of(config):
-    """The number of the first limit of a configuration that is not lawful, or none."""
+    """The number of the first of these fields that is not lawful in a configuration, or none."""
     for number, (name, (least, most)) in enumerate(LAWFUL.items(), FIRST_FAULT):
         if not least <= config.get(name, LIMITS[name]) <= most:
             return number
@@ -119,8 +126,8 @@ def refuse(number, *value):
 class Scheduler(Places):
     """The scheduler of a configuration, which is a lawful one. Each call gives the reply as a history has it."""
 
-    # How many minislots a burst takes, and how long a flow waits.
-    Bursts, Flow = Bursts, Flow
+    # How many minislots a burst takes, how long a flow waits, and whom an opportunity may go to.
+    Bursts, Flow, sids = Bursts, Flow, SIDS
 
     def __init__(self, config):
         self.config = completed(config)
@@ -130,6 +137,8 @@ class Scheduler(Places):
         self.progress = [config["start"]] * config["receivers"]
         self.flows, self.entries, self.reserves, self.maps = {}, [], [], 0
         self.heading = {key: config[key] for key in HEADING}
+        # The UCD count of the MAP before, or the configuration's, and where MAPs start that have another.
+        self.count_before, self.changes = config["ucd_count"], []
 
     def slots_for(self, count):
         return self.bursts.length(count)
@@ -288,16 +297,29 @@ class Scheduler(Places):
         return {"kind": "skipped", "next": self.next}
 
     def reserve(self, call):
-        station = call["usage"] == "station"
-        if station and not 1 <= call["sid"] <= 8191:
+        lawful = self.sids[call["usage"]]
+        if lawful and not any(call["sid"] in some for some in lawful):
             refuse(1)
         if not 1 <= call["slots"] <= self.frame - self.config["req_slots"]:
             refuse(18)
         if len(self.due()) >= MOST_RESERVES:
             refuse(19)
-        sid, usage = (call["sid"], STATION) if station else (ALL_MODEMS, INITIAL)
-        self.reserves.append(Wanted(sid, usage, call["slots"], self.maps))
+        self.reserves.append(Wanted(*self.word_of(call), call["slots"], self.maps))
         return {"kind": "reserved"}
+
+    def word_of(self, call):
+        """The SID and the usage code of the element that an opportunity is in a MAP."""
+        usage, codes = call["usage"], {"initial_to": INITIAL, "station": STATION, "request": REQUEST}
+        if usage == "initial":
+            return ALL_MODEMS, INITIAL
+        if usage == "quiet":
+            return 0, self.long_usage()
+        return call["sid"], self.usage_in(call["slots"]) if usage == "data" else codes[usage]
+
+    def usage_in(self, slots):
+        """The usage code of a data grant of as many bytes as so many minislots carry; a long one where that is none."""
+        count = self.capacity(slots)
+        return self.usage(count) if count else self.long_usage()
 
     def due(self):
         """The Reserves that no MAP has met and that have not lapsed, of all that were ever asked for, in order."""
@@ -416,7 +438,11 @@ class Scheduler(Places):
         return min(MOST_GRANTS, MOST_TOGETHER - self.limits["pending"])
 
     def idle_at(self, room):
-        return 0, self.long_usage(), 0, room
+        """An idle, which is open to the requests of all modems where a poll has room in it, and idles are to be."""
+        return (ALL_MODEMS, REQUEST, 0, room) if self.is_open(room) else (0, self.long_usage(), 0, room)
+
+    def is_open(self, room):
+        return self.config.get("open_idle", 0) == 1 and room >= self.config["poll_slots"]
 
     def chosen_at(self, start, room, waiting):
         return self.opportunity_at(room, waiting) or self.grant_at(start, room, waiting) or self.idle_at(room)
@@ -443,6 +469,25 @@ class Scheduler(Places):
         self.maps += 1
         return elements, counts
 
+    def settles(self, start):
+        """Whether the MAP of this frame settles: its UCD count is another than that of the MAP before, or one for which
+        that holds starts by less than so many minislots before it."""
+        if self.is_changed():
+            self.changes.append(start)
+        self.count_before = self.heading["ucd_count"]
+        return any(self.is_near(it, start) for it in self.changes)
+
+    def is_changed(self):
+        return self.heading["ucd_count"] != self.count_before
+
+    def is_near(self, change, start):
+        return start - change < self.config.get("settle", 0)
+
+    def settled(self):
+        """The elements of a MAP that settles, up to the Null, and their bytes: nobody has a minislot of its frame. What
+        waits for an opportunity does not age by it."""
+        return [(0, self.long_usage(), 0)], [0]
+
     def in_order(self):
         """The flows that wait, those first that have waited since the least minislot."""
         waiting = [(flow.since(), sid) for sid, flow in self.flows.items() if flow.outstanding() > 0]
@@ -457,7 +502,8 @@ class Scheduler(Places):
         return min([*self.progress, *(self.flows[sid].since() for sid in hidden)])
 
     def map_of(self, start):
-        elements, counts = self.fill(start, self.periodic_in(start))
+        settles = self.settles(start)
+        elements, counts = self.settled() if settles else self.fill(start, self.periodic_in(start))
         elements.append((0, NULL, self.frame))
         for flow in self.flows.values():
             flow.move_on()

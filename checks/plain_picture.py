@@ -6,12 +6,12 @@ themselves, frame by frame."""
 import re
 import xml.etree.ElementTree as tree
 
-from plain_report import USES, accepted, report, uses
+from plain_report import report, uses_of_frames, uses_told
 
 SVG = "{http://www.w3.org/2000/svg}"
 MOST_STEPS, RIGHT, UP, ACROSS = 800, 10240, 3200, 6400
 # From the bottom up, as they are stacked; the picture draws the highest first.
-STACKED = ("request", "poll", "unsolicited", "opportunity", "data", "idle")
+STACKED = ("request", "poll", "unsolicited", "opportunity", "data", "open", "idle")
 SHOWN = ("least", "middle", "p99", "greatest")
 COUNTED = ("served", "waiting", "dropped", "replaced")
 NUMBER = r"(\d+(?:\.\d)?)"
@@ -30,15 +30,9 @@ def milliseconds(config, minislots):
     return f"{micros // 1000}.{micros % 1000:03}"
 
 
-def frame_uses(entries):
-    """Where each frame starts, and its minislots by what they are for."""
-    found, admitted = [], []
-    for entry in entries:
-        if accepted(entry, "admit", "admitted") or accepted(entry, "remove", "removed"):
-            admitted.append(entry)
-        elif entry["reply"]["kind"] == "map":
-            found.append((entry["reply"]["start"], uses([*admitted, entry])))
-    return found
+def stacked(config):
+    """The uses that are stacked: open idles where idles are open."""
+    return [name for name in STACKED if name in uses_told(config)]
 
 
 def width_of(frames):
@@ -58,7 +52,7 @@ class Step:
         self.begin, self.end = (frames[at][0] - frames[0][0] for at in (first, behind - 1))
         self.end += config["frame"]
         self.whole = frames[-1][0] + config["frame"] - frames[0][0]
-        self.use = {name: sum(use[name] for _, use in frames[first:behind]) for name in USES}
+        self.use = {name: sum(use[name] for _, use in frames[first:behind]) for name in stacked(config)}
 
     def places(self):
         """Where it begins and ends, in tenths of a unit: the chart reaches from the start of the first frame of all to
@@ -67,15 +61,17 @@ class Step:
 
     def edge(self, upto):
         """Where a use and all below it stand in it: from where, how high, up to where."""
-        below = STACKED[:STACKED.index(upto) + 1]
+        names = stacked(self.config)
+        below = names[:names.index(upto) + 1]
         begin, end = self.places()
         return begin, UP * sum(self.use[name] for name in below) // (self.end - self.begin), end
 
     def told(self):
         use, times = self.use, [milliseconds(self.config, slots) for slots in (self.begin, self.end)]
+        opened = f"open idle {use['open']}, " if "open" in use else ""
         words = (f"frames {self.first} to {self.behind - 1}, {times[0]} to {times[1]} ms, minislots: "
                  f"request region {use['request']}, polls {use['poll']}, unsolicited {use['unsolicited']}, "
-                 f"opportunities {use['opportunity']}, data grants {use['data']}, idle {use['idle']}")
+                 f"opportunities {use['opportunity']}, data grants {use['data']}, {opened}idle {use['idle']}")
         return (*self.places(), words)
 
 
@@ -125,7 +121,7 @@ def rank_of(config, rank, tenths_of_scale):
 def shown(history):
     """What the picture of the report on a history has to show."""
     config, told = history["config"], report(history)
-    frames = frame_uses(history["entries"])
+    frames = list(uses_of_frames(config, history["entries"]))
     steps, whole = steps_of(config, frames), (told["to"] or 0) - (told["from"] or 0)
     all_slots = max(sum(told["use"].values()), 1)
     most = max([rank["delay"]["greatest"] for rank in told["priorities"] if rank["delay"]], default=0)
@@ -134,8 +130,8 @@ def shown(history):
             "span": told["from"] is not None and span_of(config, told["from"], told["to"]),
             "frame": (config["frame"], milliseconds(config, config["frame"])),
             "axes": axes_of(config, whole, scale),
-            "parts": {name: (2000 * told["use"][name] + all_slots) // (2 * all_slots) for name in USES},
-            "areas": [(name, [step.edge(name) for step in steps]) for name in reversed(STACKED)],
+            "parts": {name: (2000 * told["use"][name] + all_slots) // (2 * all_slots) for name in told["use"]},
+            "areas": [(name, [step.edge(name) for step in steps]) for name in reversed(stacked(config))],
             "steps": [step.told() for step in steps],
             "ranks": [rank_of(config, rank, scale) for rank in told["priorities"]],
             "empty": [*([] if frames else [NO_FRAME]), *([] if told["priorities"] else [NO_DELAY])]}
@@ -205,7 +201,7 @@ def read_picture(text):
     texts = [found.text for found in picture.iter(f"{SVG}text")]
     (title,) = [found for found in texts if found.startswith("Use of minislots over time.")]
     span = re.search(r"Minislots (\d+) to (\d+), ([\d.]+) ms", title)
-    names = ("request region", "polls", "unsolicited", "opportunity to range", "data grants", "idle")
+    names = ("request region", "polls", "unsolicited", "opportunities", "data grants", "open idle", "idle")
     words = dict(zip(names, STACKED))
     ground = picture.find(f"{SVG}rect")
     if ground is None or [ground.get(name) for name in ("width", "height", "fill")] != ["100%", "100%", "#fff"]:

@@ -4,9 +4,10 @@ say."""
 
 from itertools import accumulate
 
+from plain import Auditor
 from plain_bursts import Bursts
 
-REQUEST, INITIAL, STATION, NULL = 1, 3, 4, 7
+REQUEST, NULL = 1, 7
 ALL_MODEMS = 0x3FFF
 CALLS = ("admit", "ask", "build", "header", "heard", "remove", "reserve", "skip", "status")
 # Of these a report tells how many there were where there was one.
@@ -31,6 +32,36 @@ def allocations_of(reply):
     return found
 
 
+class Meeting(Auditor):
+    """Takes the entries of a legal history, and reads in each MAP which opportunities it meets. Where an element begins
+    there may be the poll or unsolicited grant whose place that is, else the first opportunity that waits, is not met
+    and has room: what the element says does not count."""
+
+    def offsets_of(self, entry):
+        """At which offsets the MAP of an entry meets an opportunity."""
+        if entry["reply"]["kind"] == "map":
+            return self.offsets_in(elements_of(entry["reply"]))
+        self.judges(entry)
+        return set()
+
+    def offsets_in(self, elements):
+        start = self.next
+        self.next += self.frame
+        if self.settles(start):
+            return set()
+        stops, waiting = [*(it[0] for it in self.periodic_in(start)), self.frame], self.waiting()
+        met = {offset for _, _, offset in elements[1:]
+               if self.opportunity_at(min(stop for stop in stops if stop >= offset) - offset, waiting)}
+        self.maps += 1
+        return met
+
+
+def met_in(config, entries):
+    """For each entry of a legal history the offsets at which its MAP meets an opportunity."""
+    meeting = Meeting({**config, "calls": len(entries) + 1})
+    return [meeting.offsets_of(entry) for entry in entries]
+
+
 def accepted(entry, call, kind):
     return entry["call"]["call"] == call and entry["reply"]["kind"] == kind
 
@@ -48,12 +79,20 @@ def is_replacement(entry):
     return accepted(entry, "replace", "taken")
 
 
-def use_of(kinds, sid, iuc):
-    """What an element is for, where flows of these kinds live."""
-    if iuc == REQUEST:
-        return "request" if sid == ALL_MODEMS else "poll"
-    if iuc in (INITIAL, STATION):
+def uses_told(config):
+    """The uses that a report tells: open idles where idles are open."""
+    return sorted([*USES, "open"]) if config.get("open_idle") == 1 else USES
+
+
+def use_of(kinds, met, sid, iuc, offset):
+    """What an element at this offset is for, where flows of these kinds live, and opportunities are met at these
+    offsets."""
+    if offset in met:
         return "opportunity"
+    if iuc == REQUEST and sid == ALL_MODEMS:
+        return "request" if offset == 0 else "open"
+    if iuc == REQUEST:
+        return "poll"
     if sid == 0:
         return "idle"
     return "unsolicited" if kinds[sid] == "unsolicited" else "data"
@@ -74,18 +113,25 @@ def next_after(config, entries):
     return start
 
 
-def uses(entries):
-    """The minislots of each allocation of each frame, by what it is for."""
-    count, kinds = dict.fromkeys(USES, 0), {}
-    for entry in entries:
+def uses_of_frames(config, entries):
+    """For each frame the minislots of each of its allocations, by what it is for."""
+    kinds = {}
+    for entry, met in zip(entries, met_in(config, entries)):
         if accepted(entry, "admit", "admitted"):
             kinds[entry["call"]["sid"]] = entry["call"]["flow"]["kind"]
         elif accepted(entry, "remove", "removed"):
             del kinds[entry["call"]["sid"]]
         elif entry["reply"]["kind"] == "map":
-            for sid, iuc, _, length, _ in allocations_of(entry["reply"]):
-                count[use_of(kinds, sid, iuc)] += length
-    return count
+            count = dict.fromkeys(uses_told(config), 0)
+            for sid, iuc, offset, length, _ in allocations_of(entry["reply"]):
+                count[use_of(kinds, met, sid, iuc, offset)] += length
+            yield entry["reply"]["start"], count
+
+
+def uses(config, entries):
+    """The minislots of all frames together, by what they are for."""
+    frames = [count for _, count in uses_of_frames(config, entries)]
+    return {name: sum(count[name] for count in frames) for name in uses_told(config)}
 
 
 class Request:
@@ -100,9 +146,10 @@ class Request:
 
 
 class Life:
-    """A life of a flow: the admission at this place, and the entries up to its end."""
+    """A life of a flow: the admission at this place, and the entries up to its end, of which each meets opportunities
+    at these offsets."""
 
-    def __init__(self, config, entries, at):
+    def __init__(self, config, entries, met, at):
         self.config, self.sid, self.first = config, entries[at]["call"]["sid"], entries[at]["call"]["flow"]
         self.ended = False
         self.since = []
@@ -113,10 +160,11 @@ class Life:
             self.since.append(entry)
         self.from_slot = next_after(config, entries[:at])
         self.to_slot = next_after(config, entries[:at + 1 + len(self.since)])
-        # What its MAPs have of it: the place of the entry, the end, the bytes and the IUC.
+        # What its MAPs have of it, but for opportunities: the place of the entry, the end, the bytes and the IUC.
         self.allocations = [(place, entry["reply"]["start"] + offset + length, count, iuc)
                             for place, entry in enumerate(self.since) if entry["reply"]["kind"] == "map"
-                            for sid, iuc, offset, length, count in allocations_of(entry["reply"]) if sid == self.sid]
+                            for sid, iuc, offset, length, count in allocations_of(entry["reply"])
+                            if sid == self.sid and offset not in met[at + 1 + place]]
         # The data grants of that, each with the bytes granted up to it and with it.
         given = [(place, end, count) for place, end, count, _ in self.allocations if count > 0]
         self.grants = [(place, end, reached)
@@ -156,8 +204,7 @@ class Life:
         """The bytes granted: of an unsolicited flow as many for each grant as its parameters said then."""
         if self.flow["kind"] != "unsolicited":
             return self.granted_before(len(self.since))
-        return sum(self.flow_before(place)["size"] for place, _, _, iuc in self.allocations
-                   if iuc not in (REQUEST, INITIAL, STATION))
+        return sum(self.flow_before(place)["size"] for place, _, _, iuc in self.allocations if iuc != REQUEST)
 
     def delays(self):
         return [request.delay for request in self.requests if request.delay is not None]
@@ -191,7 +238,8 @@ def summary(delays):
 
 
 def lives_of(config, entries):
-    return [Life(config, entries, at) for at, entry in enumerate(entries) if accepted(entry, "admit", "admitted")]
+    met = met_in(config, entries)
+    return [Life(config, entries, met, at) for at, entry in enumerate(entries) if accepted(entry, "admit", "admitted")]
 
 
 def rank_of(life):
@@ -230,7 +278,7 @@ def report(history):
             "priorities": [rank_told(rank, lives) for rank in ranks],
             "refused": {str(number): numbers.count(number) for number in set(numbers)},
             "skips": sum(1 for entry in entries if entry["reply"]["kind"] == "skipped"),
-            "to": maps[-1]["start"] + config["frame"] if maps else None, "use": uses(entries)}
+            "to": maps[-1]["start"] + config["frame"] if maps else None, "use": uses(config, entries)}
     if not any(map(is_replacement, entries)):
         for one in [*told["lives"], *told["priorities"]]:
             del one["replaced"]

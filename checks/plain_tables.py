@@ -81,9 +81,12 @@ class Tables:
 
     def uses(self):
         use, calls = self.told["use"], self.told["calls"]
+        # Open idles, where they are told, stand beside a call that else stands alone.
+        beside = [*BESIDE, ("open", "reserve")] if "open" in use else BESIDE
+        shown = [call for _, call in beside]
         lines = [f"{name:11}{number(use[name], 14)}{percent(use[name], sum(use.values()))}        {call:7}"
-                 f"{number(calls[call], 11)}\n" for name, call in BESIDE]
-        alone = [*ALONE, *(call for call in SELDOM if call in calls)]
+                 f"{number(calls[call], 11)}\n" for name, call in beside]
+        alone = [call for call in (*ALONE, *SELDOM) if call in calls and call not in shown]
         lines += [f"{'':42}{call:7}{number(calls[call], 11)}\n" for call in alone]
         return "\nuse              minislots       %        calls\n" + "".join(lines)
 

@@ -192,11 +192,12 @@ def of_fields():
     behind = [it for name in OBJECTS for it in [(f"has_{name}", "u32"), (name, f"Plain{class_of(name)}")]]
     behind += [(name, "u32") for name, _ in limits_in_c()]
     yield f"{plain}: PlainConfig", members(plain, "pub struct PlainConfig {"), by_place + behind
-    wanted = UNIFORM + [it["name"] for it in FIELDS if it["name"] not in UNIFORM + OBJECTS + LEFT_OUT]
+    others = [it["name"] for it in LIMITS if it["missing"]]
+    wanted = UNIFORM + [it["name"] for it in FIELDS if it["name"] not in UNIFORM + OBJECTS + others]
     yield f"{plain}: config", re.findall(r"(\w+): self\.\1,", code_of(plain)), wanted
     found = re.findall(r"(\w+): or_missing\(self\.\1, (\d+)\),", code_of(plain))
     found += re.findall(r"if self\.has_(\w+) == 0 \{\s+(\d+)\s+\} else \{\s+self\.\1\s", code_of(plain))
-    wanted = [(it["name"], str(it["missing"])) for it in sorted(LIMITS, key=lambda it: it["name"] in FLAGGED)]
+    wanted = [(name, str(MISSING[name])) for name in sorted(others, key=lambda it: it in FLAGGED)]
     yield f"{plain}: what may be missing", found, wanted
 
 
@@ -272,7 +273,10 @@ def of_calls():
     yield f"{plain}: PlainCall", members(plain, "pub struct PlainCall {"), places
     replies = {it.get("code", it["name"]): number for number, it in enumerate(TABLES["reply"])}
     yield "crates/mapsched_c/src/reply.rt", constants("crates/mapsched_c/src/reply.rt", "pub mod answer {"), replies
-    for path, of, rest in [("call", CALLS, {"call", "initial", "station"}), ("flow", FLOWS, {"kind"})]:
+    usages = MEMBER["usage"]["names"]
+    words = re.findall(r'"(\w+)"', block("crates/file_words/src/sort.rt", "pub static USAGES: ", "];"))
+    yield "crates/file_words/src/sort.rt: USAGES", words, usages
+    for path, of, rest in [("call", CALLS, {"call", *usages}), ("flow", FLOWS, {"kind"})]:
         found = set(re.findall(r'"(\w+)"', code_of(f"crates/call_reading/src/{path}.rt"))) - rest
         wanted = {it for row in of for it in (row["name"], *row["members"], *instead(row))}
         yield f"crates/call_reading/src/{path}.rt", found, wanted

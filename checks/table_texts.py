@@ -16,9 +16,10 @@ NUMBERED = [it["name"] for it in FIELDS if it.get("number", True)]
 MEMBER = {it["name"]: it for it in MEMBERS}
 # The fields that are objects.
 OBJECTS = [it["name"] for it in FIELDS if "bits" not in it]
-# The fields that stand behind the others in C, and those of them that go by a flag, since 0 is lawful.
-LIMITS = [it for it in FIELDS if it["name"] in LEFT_OUT]
-FLAGGED = [it["name"] for it in LIMITS if it["range"][0] == 0]
+# The fields that stand behind the others in C, and those of them that go by a flag, since 0 is lawful and another value
+# than the missing one.
+LIMITS = [it for it in FIELDS if it["name"] in LEFT_OUT and it["bits"] == 32]
+FLAGGED = [it["name"] for it in LIMITS if it["range"][0] == 0 and it["missing"] != 0]
 # The members of `bursts` that are numbers, and those that are profiles, with their names in C.
 SYMBOLS = [it["name"] for it in BURSTS if "bits" in it]
 PROFILES = {it["name"]: it["c"] for it in BURSTS if "bits" not in it}
@@ -212,8 +213,8 @@ def c_statuses():
 
 
 def by_size():
-    """The fields but the limits by their sizes, in an order that leaves no gaps."""
-    rows = [it for it in FIELDS if it["name"] not in LEFT_OUT]
+    """The fields but the limits by their sizes."""
+    rows = [it for it in FIELDS if it not in LIMITS]
     return [(bits, [it["name"] for it in rows if it.get("bits") == bits]) for bits in (32, 64, 8)]
 
 
@@ -225,7 +226,7 @@ def limits():
         if name in FLAGGED:
             told += [(f"has_{name}", f"0: {name} is not read, and is {missing}"), (name, None)]
         else:
-            told.append((name, f"0: {missing}"))
+            told.append((name, f"0: {missing}" if missing else None))
     return told
 
 
@@ -260,7 +261,8 @@ def c_kinds():
 
 
 def c_usages():
-    return enum("usage", [(it, number) for number, it in enumerate(MEMBER["usage"]["names"])], [])
+    usage = MEMBER["usage"]
+    return enum("usage", [(it, number) for number, it in enumerate(usage["names"])], usage["notes"])
 
 
 def c_call():

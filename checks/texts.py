@@ -36,7 +36,8 @@ PLAIN, SEVERAL = table("runs"), table("runs_with_several_grants")
 CROWDS = [table("runs_of_many_flows"), table("a_run_of_many_grants"), table("a_run_of_forty_grants")]
 RANGING, BURSTY = table("runs_with_opportunities"), table("runs_with_bursts")
 LIMITED, CHANGED = table("runs_with_many_flows"), table("runs_with_changed_flows")
-RUNS = [PLAIN, SEVERAL, RANGING, BURSTY, LIMITED, CHANGED, *CROWDS]
+OPENED, SETTLED = table("runs_with_open_idles"), table("runs_that_settle")
+RUNS = [PLAIN, SEVERAL, RANGING, BURSTY, LIMITED, CHANGED, OPENED, SETTLED, *CROWDS]
 REPLIES, BUILD = table("a_history_with_each_reply"), table("a_history_of_one_build")
 CALLS = read("checks/rows/calls_of_each_name")
 
@@ -65,8 +66,8 @@ def compact(value):
 MISSING = {it["name"]: it["missing"] for it in tables()["field"] if isinstance(it.get("missing"), int)}
 # The fields that no history has where they are those.
 LEFT_OUT = [it["name"] for it in tables()["field"] if it.get("left_out")]
-# The most flows that may live, that a MAP shows as waiting, and grants and polls in an interval, where a text lacks
-# them.
+# What they are then: the most flows that may live, that a MAP shows as waiting, and grants and polls in an interval;
+# whether idles are open, and how many minislots a new UCD count settles.
 LIMITS = {name: MISSING[name] for name in LEFT_OUT}
 # The fields that nobody reads where `bursts` stands, and the profiles that stand in that, each with these numbers.
 UNIFORM = [name for it in tables()["field"] for name in it.get("instead_of", [])]

@@ -3,7 +3,7 @@ acknowledging hold. It is read in the entries alone, and knows nothing of how a 
 is counted in bytes, and there are no batches."""
 
 from plain_bursts import Bursts
-from reached import ELEMENTS, GRANTS, LONG, TOGETHER, Map
+from reached import ELEMENTS, GRANTS, LONG, TOGETHER, Following
 from texts import LIMITS
 
 STARTS, WIRE = 40, 2**32
@@ -24,7 +24,7 @@ FLOWS = {
     "data grants as many as pending ones leave", "data grants as many as pending ones and opportunities leave",
     "240 elements with 64 pending ones", "240 elements with more pending ones",
     "a request of a flow that is not shown is replaced", "a request of a flow that is not shown is replaced with none",
-    "it is held back by a request that replaced others",
+    "it is held back by a request that replaced others", "it is held back in a MAP that settles",
 }
 
 
@@ -63,6 +63,7 @@ class Waited:
         self.bursts, self.progress = Bursts(config), [config["start"]] * config["receivers"]
         self.lives, self.ack, self.held, self.shown, self.hidden = {}, 0, False, set(), set()
         self.replaced, self.events, self.faults = set(), set(), []
+        self.following, self.found = Following(config), None
 
     def says(self, event, where=True):
         if where:
@@ -74,7 +75,7 @@ class Waited:
 
     def read(self, entries):
         for place, entry in enumerate(entries):
-            self.place = place
+            self.place, self.found = place, self.following.follow(entry)
             call, reply = entry["call"], entry["reply"]
             read = getattr(self, call["call"], None)
             if read and reply["kind"] == "refused":
@@ -136,7 +137,7 @@ class Waited:
         self.progress[call["receiver"]] = call["upto"]
 
     def build(self, call, reply):
-        found = Map(reply)
+        found = self.found
         for sid, _, _, _, count in found.grants:
             self.lives[sid].granted += count
             self.says("a flow that is not shown has a grant", sid in self.hidden and self.lives[sid].waits())
@@ -145,6 +146,7 @@ class Waited:
         self.shows(found, waiting, shown)
         self.acknowledges(reply, waiting, waiting - set(shown))
         self.counts(found, shown)
+        self.says("it is held back in a MAP that settles", found.settles and reply["ack"] < min(self.progress))
         self.follows(reply, set(shown), waiting - set(shown))
 
     # A MAP.

@@ -49,7 +49,7 @@ extern "C" {
 
 /* How many fields of a configuration can be wrong, and faults a payload, the numbers of a MAP and a request have. */
 /* checks/tables: counts begin */
-#define MAPSCHED_CONFIG_FIELDS 23
+#define MAPSCHED_CONFIG_FIELDS 25
 #define MAPSCHED_PAYLOAD_FAULTS 7
 #define MAPSCHED_MAP_FAULTS 5
 #define MAPSCHED_REQUEST_FAULTS 4
@@ -79,7 +79,7 @@ enum mapsched_status {
   MAPSCHED_NO_TURN = 19,      /* the worker is not in its turn */
   MAPSCHED_KEEPS_ALL = 20,    /* the scheduler of the workplace keeps its whole history: nothing was let go */
   MAPSCHED_NO_WORDS = 21,     /* no status or no refusal has this number */
-  MAPSCHED_BAD_CONFIG = 100,  /* and the number of the first wrong field: 101 to 123, by docs/REFERENCE.md */
+  MAPSCHED_BAD_CONFIG = 100,  /* and the number of the first wrong field: 101 to 125, by docs/REFERENCE.md */
   MAPSCHED_BAD_PAYLOAD = 200, /* and the number of the first fault: 201 to 207, by docs/REFERENCE.md */
   MAPSCHED_BAD_MAP = 300,     /* and the number of the first fault of numbers that are no MAP: 301 to 305 */
   MAPSCHED_BAD_REQUEST = 400  /* and the number of the first fault of bytes that are no request frame: 401 to 404 */
@@ -101,13 +101,14 @@ struct mapsched_config {
   uint32_t ticks, bytes_per_slot, overhead, frame, cycle, req_slots, poll_slots, lead, short_max, quantum, grant_cap;
   uint32_t calls;
   uint64_t start;
-  uint8_t receivers, ranging_start, ranging_end, data_start, data_end, channel, ucd_count, phy;
+  uint8_t receivers, ranging_start, ranging_end, data_start, data_end, channel, ucd_count, phy, open_idle;
   uint32_t has_bursts; /* 0: bytes_per_slot and overhead are read, and not bursts */
   struct mapsched_bursts bursts;
   uint32_t flows;        /* 0: 64 */
   uint32_t pending;      /* 0: 64 */
   uint32_t has_periodic; /* 0: periodic is not read, and is 40 */
   uint32_t periodic;
+  uint32_t settle;
 };
 /* checks/tables: configuration end */
 
@@ -120,7 +121,7 @@ enum mapsched_call_kind {
   MAPSCHED_BUILD = 4,
   MAPSCHED_SKIP = 5,
   MAPSCHED_STATUS = 6,
-  MAPSCHED_RESERVE = 7, /* an opportunity to range: usage, slots, and of a station its sid */
+  MAPSCHED_RESERVE = 7, /* an opportunity: usage, slots, and its sid where it is not of all modems or of none */
   MAPSCHED_HEADER = 8,  /* of every MAP after it: ucd_count and the four exponents */
   MAPSCHED_REPLACE = 9, /* a request that supersedes those before, with the members of an ask */
   MAPSCHED_CHANGE = 10, /* of a live flow: other parameters of the same kind, with the members of an admission */
@@ -131,9 +132,16 @@ enum mapsched_call_kind {
 enum mapsched_flow_kind { MAPSCHED_UNSOLICITED = 0, MAPSCHED_POLLED = 1, MAPSCHED_BEST_EFFORT = 2 };
 /* checks/tables: kinds end */
 
-/* Whom an opportunity to range is for: all modems that join the channel, or one that is known by its SID. */
+/* What an opportunity is used for, and by whom. */
 /* checks/tables: usages begin */
-enum mapsched_usage { MAPSCHED_INITIAL = 0, MAPSCHED_STATION = 1 };
+enum mapsched_usage {
+  MAPSCHED_INITIAL = 0,    /* Initial Maintenance for any modem */
+  MAPSCHED_STATION = 1,    /* Station Maintenance for the modem of sid */
+  MAPSCHED_INITIAL_TO = 2, /* Initial Maintenance for the modem of sid */
+  MAPSCHED_REQUEST = 3,    /* requests of the modems of sid: one, those of a priority, or all */
+  MAPSCHED_QUIET = 4,      /* no modem sends */
+  MAPSCHED_DATA = 5        /* a data grant to sid that needs no flow */
+};
 /* checks/tables: usages end */
 
 /*
@@ -410,7 +418,7 @@ static inline const char *mapsched_status_text(uint32_t status) {
   static const char *const fields[] = {
       "ticks", "bytes_per_slot", "overhead", "frame", "cycle", "req_slots", "poll_slots", "lead", "short_max",
       "quantum", "grant_cap", "receivers", "calls", "start", "ranging_start", "ranging_end", "data_start", "data_end",
-      "phy", "bursts", "flows", "pending", "periodic",
+      "phy", "bursts", "flows", "pending", "periodic", "open_idle", "settle",
   };
   static const char *const faults[] = {
       "too short", "too many elements", "wrong length", "an expansion", "a descent", "no null", "a second null",

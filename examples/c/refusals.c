@@ -310,12 +310,12 @@ static void headers(struct mapsched_scheduler *scheduler) {
   WANT(map.ranging_start == 15 && map.ranging_end == 0 && map.data_start == 3 && map.data_end == 8);
 }
 
-/* Opportunities to range: who and what they may be for, how many wait, and how a history has them. */
+/* Opportunities: who and what they may be for, how many wait, and how a history has them. */
 static void opportunities(void) {
   struct mapsched_config config = lawful();
   struct mapsched_scheduler scheduler = {0};
   struct mapsched_stamp stamp = {0};
-  struct mapsched_call call = {.kind = MAPSCHED_RESERVE, .usage = 2, .slots = 36, .sid = 9};
+  struct mapsched_call call = {.kind = MAPSCHED_RESERVE, .usage = MAPSCHED_DATA + 1, .slots = 36, .sid = 9};
   struct mapsched_reply reply;
   struct mapsched_entry entry;
   config.calls = 100;
@@ -622,6 +622,14 @@ int main(void) {
   WANT(mapsched_check(&wrong) == MAPSCHED_OK);
   wrong.has_periodic = 2;
   WANT(mapsched_check(&wrong) == MAPSCHED_BAD_CONFIG + 23 && strcmp(mapsched_status_text(123), "periodic") == 0);
+  wrong = lawful();
+  wrong.open_idle = 2;
+  wrong.settle = 4097;
+  WANT(mapsched_check(&wrong) == MAPSCHED_BAD_CONFIG + 24 && strcmp(mapsched_status_text(124), "open_idle") == 0);
+  wrong.open_idle = 1;
+  WANT(mapsched_check(&wrong) == MAPSCHED_BAD_CONFIG + 25 && strcmp(mapsched_status_text(125), "settle") == 0);
+  wrong.settle = 4096;
+  WANT(mapsched_check(&wrong) == MAPSCHED_OK);
   wrong = lawful();
   wrong.phy = 2;
   WANT(mapsched_check(&wrong) == MAPSCHED_BAD_CONFIG + 19 && strcmp(mapsched_status_text(119), "phy") == 0);

@@ -185,10 +185,10 @@ class Live:
         return self.call({"call": "status", "sid": sid})
 
     def reserve(self, usage, slots, sid=None):
-        """None, or `Refused`: a later MAP is to have an opportunity to range of so many minislots, `initial` for all
-        modems, or `station` for the one of a SID."""
-        station = {} if sid is None else {"sid": sid}
-        return self.call({"call": "reserve", "usage": usage, "slots": slots, **station})
+        """None, or `Refused`: a later MAP is to have an opportunity of so many minislots, `initial` for all modems or
+        `quiet` for none, or of another usage for those of a SID."""
+        modems = {} if sid is None else {"sid": sid}
+        return self.call({"call": "reserve", "usage": usage, "slots": slots, **modems})
 
     def header(self, ucd_count, ranging_start, ranging_end, data_start, data_end):
         """None, or `Refused`: the UCD count and the exponents of the backoff windows in the MAPs after it."""

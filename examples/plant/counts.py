@@ -174,6 +174,10 @@ class Counts:
             late += [(rank, slow, asks)] if part > 0.5 and 10 * slow >= asks > 0 else []
         return part, late
 
+    def uses(self):
+        """What minislots may be for: idle ones are told apart where they may be open to requests."""
+        return (*USES, "open") if self.config.get("open_idle") else USES
+
     def report(self, now):
         asked = {rank_of(life.flow) for life in self.lives if life.asks}
         calls = [*CALLS, *(name for name in MORE_CALLS if self.calls[name])]
@@ -181,4 +185,4 @@ class Counts:
                 "lives": [life.told(now, self.has_replaced()) for life in self.lives],
                 "priorities": [self.rank(rank) for rank in sorted(asked, reverse=True)],
                 "refused": {str(number): count for number, count in self.refused.items()}, "skips": self.skips,
-                "to": self.last, "use": {use: self.use[use] for use in USES}}
+                "to": self.last, "use": {use: self.use[use] for use in self.uses()}}

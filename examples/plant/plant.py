@@ -192,7 +192,7 @@ class Plant:
             return "idle"
         if element.sid == ALL_MODEMS:
             self.contend(map_, at, element.slots // REQUEST_SLOTS)
-            return "request"
+            return "open" if element.offset else "request"
         modem.fill(at)
         if element.iuc == REQUEST:
             self.ask(modem, at, element.slots, "poll")
@@ -206,7 +206,7 @@ class Plant:
         return "data"
 
     def contend(self, map_, at, chances):
-        """The request region: of those that begin in one opportunity none is heard."""
+        """A request region, or an idle that is open to requests: of those that begin in one opportunity none is heard."""
         count, tries = self.counts.requests, {}
         for modem in self.modems.values():
             if modem.contends and modem.life:
@@ -285,6 +285,7 @@ def arguments():
     reader.add_argument("--telephones", metavar="N", type=int, help="so many of the modems are telephones")
     reader.add_argument("--cameras", metavar="N", type=int, help="so many are cameras")
     reader.add_argument("--seed", type=int, default=1, help="another plant for another number (1)")
+    reader.add_argument("--open-idle", action="store_true", help="modems may ask in idle minislots too")
     reader.add_argument("--journal", metavar="FILE", help="keeps a journal; where it has calls, the plant goes on")
     reader.add_argument("--json", action="store_true", help="prints all numbers in JSON, delays in minislots")
     given = reader.parse_args()
@@ -322,8 +323,9 @@ def main():
         signal.signal(number, Stopped.raised)
     try:
         chosen = name_checked(given.program) if given.program else program()
-        with (Again if given.journal else Live)(CONFIG, chosen, given.journal) as live:
-            plant = Plant(live, CONFIG, given.seed, given.crowd)
+        config = {**CONFIG, "open_idle": 1} if given.open_idle else CONFIG
+        with (Again if given.journal else Live)(config, chosen, given.journal) as live:
+            plant = Plant(live, config, given.seed, given.crowd)
             plant.run(given.seconds)
             if given.journal:
                 tell_what_is_left(live, given.journal)

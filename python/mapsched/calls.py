@@ -80,6 +80,8 @@ class Config:
     flows: int = 64
     pending: int = 64
     periodic: int = 40
+    open_idle: int = 0
+    settle: int = 0
     # checks/tables: fields end
 
     def __post_init__(self) -> None:
@@ -218,8 +220,8 @@ class Status:
 
 @dataclass(frozen=True)
 class Reserve:
-    """Asks for an opportunity to range of so many minislots: `initial`, which has no SID and passes one over, or
-    `station` for the modem of an SID. The reply is `Reserved`."""
+    """Asks for an opportunity of so many minislots: `initial` or `quiet`, which have no SID and pass one over, or
+    `initial_to`, `station`, `request` or `data` for the modems of an SID. The reply is `Reserved`."""
 
     usage: str
     slots: int
@@ -285,7 +287,7 @@ _CALLS = {
     "reserve": Reserve, "header": Header, "replace": Replace, "change": Change, "rest": Rest, "wake": Wake,
 }
 _FLOWS = {"unsolicited": Unsolicited, "polled": Polled, "best_effort": BestEffort}
-_USAGES = ["initial", "station"]
+_USAGES = ["initial", "station", "initial_to", "request", "quiet", "data"]
 # The members that the struct has as `minislot`.
 _MINISLOTS = {"heard", "upto", "now"}
 # The fields that are not read where there are burst descriptors, and what the struct has for profiles.
@@ -295,6 +297,8 @@ _PROFILES = {"short": "short_data", "long": "long_data", "unsolicited": "unsolic
 # A value of `flows` and `pending` that is a fault, where 0 is none in the struct.
 _NOT_LAWFUL = 2**32 - 1
 _CALL_TYPES, _FLOW_TYPES = list(_CALLS.values()), list(_FLOWS.values())
+# The usages that no SID stands beside.
+_WITHOUT_SID = ("initial", "quiet")
 # The calls that ask for bytes, or for what minislots carry.
 _REQUESTS = (Ask, Replace)
 
@@ -325,7 +329,7 @@ def numbers_of(call: Call) -> CallNumbers:
     if isinstance(call, Reserve):
         if call.usage not in _USAGES:
             raise ValueError(f"{call.usage!r} is no usage")
-        values |= {"usage": _USAGES.index(call.usage), "sid": call.sid if call.usage == "station" else 0}
+        values |= {"usage": _USAGES.index(call.usage), "sid": 0 if call.usage in _WITHOUT_SID else call.sid}
     if isinstance(call, _REQUESTS):
         values["has_slots"] = int(call.slots is not None)
         del values["slots" if call.slots is None else "bytes"]

@@ -10,7 +10,7 @@ from .library import text_of
 _FIELDS = [
     "ticks", "bytes_per_slot", "overhead", "frame", "cycle", "req_slots", "poll_slots", "lead", "short_max", "quantum",
     "grant_cap", "receivers", "calls", "start", "ranging_start", "ranging_end", "data_start", "data_end", "phy",
-    "bursts", "flows", "pending", "periodic",
+    "bursts", "flows", "pending", "periodic", "open_idle", "settle",
 ]
 _PAYLOAD = ["too short", "too many elements", "wrong length", "an expansion", "a descent", "no null", "a second null"]
 _MAP = ["too many elements", "out of range", "a descent", "no null", "a second null"]

@@ -38,10 +38,10 @@ class ConfigNumbers(Structure):
         *((name, c_uint32) for name in ("poll_slots", "lead", "short_max", "quantum", "grant_cap", "calls")),
         ("start", c_uint64),
         *((name, c_uint8) for name in ("receivers", "ranging_start", "ranging_end", "data_start", "data_end")),
-        *((name, c_uint8) for name in ("channel", "ucd_count", "phy")),
+        *((name, c_uint8) for name in ("channel", "ucd_count", "phy", "open_idle")),
         ("has_bursts", c_uint32),
         ("bursts", BurstsNumbers),
-        *((name, c_uint32) for name in ("flows", "pending", "has_periodic", "periodic")),
+        *((name, c_uint32) for name in ("flows", "pending", "has_periodic", "periodic", "settle")),
     ]
 # checks/tables: configuration end
 

@@ -41,6 +41,8 @@ pub(crate) const WIDE: Config = Config {
     flows: 64,
     pending: 64,
     periodic: 40,
+    open_idle: 0,
+    settle: 0,
 };
 
 // Where sixteen workers make theirs.

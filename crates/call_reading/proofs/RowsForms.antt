@@ -1,7 +1,8 @@
 -- The readers of a flow and of a call take the objects of their forms and no others.
 use Rattle.std.proofs.Common.{◌≡◌, ℕ, ◌-◌, ◌^◌, true, is_some, codes, List, take, drop, Some, None, refl}
 use Rattle.serde_json.specs.Data.{Data, null, object, number, unsigned, string, Members, put, no_members}
-use Rattle.sched_calls.specs.declared.opportunity.Usage.TheVariants.{Initial, Station}
+use Rattle.sched_calls.specs.declared.opportunity.Usage.TheVariants.{Initial, InitialTo, Station}
+use Rattle.sched_calls.specs.declared.opportunity.Usage.TheVariants.{Request, Quiet, DataTo}
 use Rattle.sched_calls.specs.declared.amount.Amount.TheVariants.{Bytes, Slots}
 use Rattle.sched_calls.specs.declared.spec.FlowSpec.TheVariants.{BestEffort}
 use Rattle.sched_calls.specs.declared.call.Call.TheVariants.{Ask, Reserve, Replace, Change, Rest, Wake}
@@ -24,7 +25,7 @@ flow sort =
     object (put (codes "kind") (string (codes "best_effort")) (put (codes "priority") (number (unsigned 7))
     (put (codes "rate") (number (unsigned 0)) (put (codes "burst") (number (unsigned 0)) no_members))))
 
--- each call but a Reserve, whose SID stands beside its usage where that is of one modem, a request with its bytes
+-- each call but a Reserve, whose SID stands beside some of its usages, a request with its bytes
 calls : takes_forms (λ d. is_some (call_of d)) flow (leaving_out (codes "slots") (take 7 CALLS)) ≡ true
 unfolding call_of admit_call remove_call amount_of ask_call heard_call build_call skip_call status_call flow_of
     unsolicited_of polled_of best_effort_of u8_or u8_at u16_at u32_at u64_at number_at text_at
@@ -172,9 +173,46 @@ a_reserve_for_one_with_another_sid : call_of (reserve (codes "station") 8 (sid (
 unfolding call_of reserve_call usage_of u16_at u32_at number_at text_at
 a_reserve_for_one_with_another_sid = refl
 
+a_reserve_for_one_that_joins : call_of (reserve (codes "initial_to") 8 (sid 17)) ≡ Some (Reserve (InitialTo 17) 8)
+unfolding call_of reserve_call usage_of u16_at u32_at number_at text_at
+a_reserve_for_one_that_joins = refl
+
+a_reserve_for_one_that_joins_without_an_sid : call_of (reserve (codes "initial_to") 8 no_members) ≡ None
+unfolding call_of reserve_call usage_of u16_at u32_at number_at text_at
+a_reserve_for_one_that_joins_without_an_sid = refl
+
+a_reserve_for_requests : call_of (reserve (codes "request") 2 (sid 16127)) ≡ Some (Reserve (Request 16127) 2)
+unfolding call_of reserve_call usage_of u16_at u32_at number_at text_at
+a_reserve_for_requests = refl
+
+a_reserve_for_requests_without_an_sid : call_of (reserve (codes "request") 2 no_members) ≡ None
+unfolding call_of reserve_call usage_of u16_at u32_at number_at text_at
+a_reserve_for_requests_without_an_sid = refl
+
+a_reserve_for_nobody : call_of (reserve (codes "quiet") 8 no_members) ≡ Some (Reserve Quiet 8)
+unfolding call_of reserve_call usage_of u16_at u32_at number_at text_at
+a_reserve_for_nobody = refl
+
+-- an SID beside it is a key that is not named
+a_reserve_for_nobody_beside_an_sid : call_of (reserve (codes "quiet") 8 (sid (2 ^ 16))) ≡ Some (Reserve Quiet 8)
+unfolding call_of reserve_call usage_of u16_at u32_at number_at text_at
+a_reserve_for_nobody_beside_an_sid = refl
+
+a_reserve_for_data : call_of (reserve (codes "data") 8 (sid (2 ^ 16 - 1))) ≡ Some (Reserve (DataTo (2 ^ 16 - 1)) 8)
+unfolding call_of reserve_call usage_of u16_at u32_at number_at text_at
+a_reserve_for_data = refl
+
+a_reserve_for_data_with_another_sid : call_of (reserve (codes "data") 8 (sid (2 ^ 16))) ≡ None
+unfolding call_of reserve_call usage_of u16_at u32_at number_at text_at
+a_reserve_for_data_with_another_sid = refl
+
 a_reserve_of_another_usage : call_of (reserve (codes "Initial") 8 no_members) ≡ None
 unfolding call_of reserve_call usage_of u16_at u32_at number_at text_at
 a_reserve_of_another_usage = refl
+
+a_reserve_of_another_usage_with_an_sid : call_of (reserve (codes "Station") 8 (sid 17)) ≡ None
+unfolding call_of reserve_call usage_of u16_at u32_at number_at text_at
+a_reserve_of_another_usage_with_an_sid = refl
 
 a_reserve_of_another_length : call_of (reserve (codes "initial") (2 ^ 32) no_members) ≡ None
 unfolding call_of reserve_call usage_of u16_at u32_at number_at text_at

@@ -1,5 +1,5 @@
 -- The flow and the call that a JSON object stands for.
-use Rattle.std.specs.Prelude.{◌≡◌, if◌then◌else◌, codes, bytes_eq, Option, Some, None, is_some}
+use Rattle.std.specs.Prelude.{◌≡◌, ℕ, if◌then◌else◌, codes, bytes_eq, List, Option, Some, None, is_some}
 use Rattle.serde_json.specs.Data.{Data}
 use Rattle.serde_json.specs.Find.{get}
 use Rattle.sched_calls.specs.declared.amount.Amount.{Amount}
@@ -7,7 +7,8 @@ use Rattle.sched_calls.specs.declared.amount.Amount.TheVariants.{Bytes, Slots}
 use Rattle.sched_calls.specs.declared.spec.FlowSpec.{FlowSpec}
 use Rattle.sched_calls.specs.declared.spec.FlowSpec.TheVariants.{Unsolicited, Polled, BestEffort}
 use Rattle.sched_calls.specs.declared.opportunity.Usage.{Usage}
-use Rattle.sched_calls.specs.declared.opportunity.Usage.TheVariants.{Initial, Station}
+use Rattle.sched_calls.specs.declared.opportunity.Usage.TheVariants.{Initial, InitialTo, Station}
+use Rattle.sched_calls.specs.declared.opportunity.Usage.TheVariants.{Request, Quiet, DataTo}
 use Rattle.sched_calls.specs.declared.call.Call.{Call}
 use Rattle.sched_calls.specs.declared.call.Call.TheVariants.{Admit, Remove, Ask, Heard, Build, Skip, Status}
 use Rattle.sched_calls.specs.declared.call.Call.TheVariants.{Reserve, Header, Replace, Change, Rest, Wake}
@@ -104,13 +105,21 @@ status_call d = do
   sid ← u16_at (codes "sid") d
   Some (Status sid)
 
--- whom an opportunity is for: a SID stands beside it where it is for one modem
+-- the words of what an opportunity to a SID is used for
+abbrev pub usage_to : List ℕ → ℕ → Option Usage
+usage_to usage sid =
+    if bytes_eq usage (codes "initial_to") then Some (InitialTo sid)
+    else (if bytes_eq usage (codes "station") then Some (Station sid)
+    else (if bytes_eq usage (codes "request") then Some (Request sid)
+    else (if bytes_eq usage (codes "data") then Some (DataTo sid) else None)))
+
+-- what an opportunity is used for: a SID stands beside each but initial and quiet
 unfoldable pub usage_of : Data → Option Usage
 usage_of d = do
   usage ← text_at (codes "usage") d
   if bytes_eq usage (codes "initial") then Some Initial
-      else (if bytes_eq usage (codes "station") then (u16_at (codes "sid") d >>= (λ sid. Some (Station sid)))
-      else None)
+      else (if bytes_eq usage (codes "quiet") then Some Quiet
+      else (u16_at (codes "sid") d >>= usage_to usage))
 
 -- a Reserve
 unfoldable pub reserve_call : Data → Option Call

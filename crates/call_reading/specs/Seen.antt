@@ -10,11 +10,11 @@ use Rattle.sched_calls.specs.declared.call.Call.{Call}
 use Rattle.sched_calls.specs.declared.call.Call.TheVariants.{Admit, Remove, Ask, Heard, Build, Skip, Status}
 use Rattle.sched_calls.specs.declared.call.Call.TheVariants.{Reserve, Header, Replace, Change, Rest, Wake}
 use Rattle.sched_calls.specs.declared.opportunity.Usage.{Usage}
-use Rattle.sched_calls.specs.declared.opportunity.Usage.TheVariants.{Initial, Station}
+use Rattle.sched_calls.specs.declared.opportunity.Usage.TheVariants.{Initial, Quiet}
 use Rattle.json_fields.specs.Fields.{◌>>=◌, below}
 use Rattle.call_reading.specs.declared.found.Found.{Found}
 use Rattle.call_reading.specs.declared.found.Ranging.{Ranging}
-use Rattle.call_reading.specs.Calls.{flow_of}
+use Rattle.call_reading.specs.Calls.{flow_of, usage_to}
 
 -- what stands under each key that a call may have, and whether anything stands under those of which only one may stand,
 -- and whether there is a configuration
@@ -211,13 +211,13 @@ seen_status s = do
   sid ← s.sid >>= below (2 ^ 16)
   Some (Status sid)
 
--- whom an opportunity is for
+-- what an opportunity is used for
 unfoldable pub seen_usage : Seen → Option Usage
 seen_usage s = do
   usage ← s.usage
   if bytes_eq usage (codes "initial") then Some Initial
-      else (if bytes_eq usage (codes "station") then (s.sid >>= below (2 ^ 16) >>= (λ sid. Some (Station sid)))
-      else None)
+      else (if bytes_eq usage (codes "quiet") then Some Quiet
+      else (s.sid >>= below (2 ^ 16) >>= usage_to usage))
 
 -- a Reserve
 unfoldable pub seen_reserve : Seen → Option Call

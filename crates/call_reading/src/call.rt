@@ -2,8 +2,8 @@
 
 ghost use Rattle.std.specs.Prelude.{◌≡◌};
 ghost use Rattle.call_reading.specs.Calls.{admit_call, remove_call, amount_of, ask_call, heard_call, build_call};
-ghost use Rattle.call_reading.specs.Calls.{skip_call, status_call, usage_of, reserve_call, header_call, replace_call};
-ghost use Rattle.call_reading.specs.Calls.{change_call, rest_call, wake_call, call_of};
+ghost use Rattle.call_reading.specs.Calls.{skip_call, status_call, usage_to, usage_of, reserve_call, header_call};
+ghost use Rattle.call_reading.specs.Calls.{replace_call, change_call, rest_call, wake_call, call_of};
 
 use super::flow::flow_of;
 use json_fields::{Tree, member, number_u8, number_u16, number_u32, number_u64, text};
@@ -97,15 +97,28 @@ fn status_call<T: Tree>(value: &T) -> Option<Call>
     Some(Call::Status(number_u16(value, "sid")?))
 }
 
-// Whom an opportunity is for: a SID stands beside it where it is for one modem.
+/// What an opportunity to a SID is used for.
+pub(crate) fn usage_to(usage: &str, sid: u16) -> Option<Usage>
+    ensures { result ≡ usage_to usage.now sid }
+{
+    match usage {
+        "initial_to" => Some(Usage::InitialTo(sid)),
+        "station" => Some(Usage::Station(sid)),
+        "request" => Some(Usage::Request(sid)),
+        "data" => Some(Usage::DataTo(sid)),
+        _ => None,
+    }
+}
+
+// What an opportunity is used for: a SID stands beside each but `initial` and `quiet`.
 #[tactic(auto, unfolding(crate::specs::Calls::usage_of))]
 fn usage_of<T: Tree>(value: &T) -> Option<Usage>
     ensures { result ≡ usage_of (T.shown value.now) }
 {
     match text(value, "usage")? {
         "initial" => Some(Usage::Initial),
-        "station" => Some(Usage::Station(number_u16(value, "sid")?)),
-        _ => None,
+        "quiet" => Some(Usage::Quiet),
+        usage => usage_to(usage, number_u16(value, "sid")?),
     }
 }
 

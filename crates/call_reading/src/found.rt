@@ -6,6 +6,7 @@ ghost use Rattle.call_reading.specs.Seen.{nothing, seen_of, seen_admit, seen_rem
 ghost use Rattle.call_reading.specs.Seen.{seen_build, seen_skip, seen_status, seen_usage, seen_reserve, seen_header};
 ghost use Rattle.call_reading.specs.Seen.{seen_replace, seen_change, seen_rest, seen_wake, seen_call, ranging_in};
 
+use crate::call::usage_to;
 use sched_calls::{Amount, Call, FlowSpec, Header, Usage};
 
 /// What was found under each key that only a call of ranging may have, or a request in minislots. A number that is too
@@ -206,15 +207,15 @@ pub(crate) fn status(found: &Found<'_>) -> Option<Call>
     Some(Call::Status(to_u16(found.sid)?))
 }
 
-// Whom an opportunity is for: a SID stands beside it where it is for one modem.
+// What an opportunity is used for: a SID stands beside each but `initial` and `quiet`.
 #[tactic(auto, unfolding(crate::specs::Seen::seen_usage))]
 fn usage(found: &Found<'_>) -> Option<Usage>
     ensures { result ≡ seen_usage (seen_of found.now) }
 {
     match found.ranging_so_far().usage? {
         "initial" => Some(Usage::Initial),
-        "station" => Some(Usage::Station(to_u16(found.sid)?)),
-        _ => None,
+        "quiet" => Some(Usage::Quiet),
+        usage => usage_to(usage, to_u16(found.sid)?),
     }
 }
 

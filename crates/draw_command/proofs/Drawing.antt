@@ -5,7 +5,7 @@ use Rattle.sched_calls.specs.declared.call.Call.{Call}
 use Rattle.sched_history.specs.Machine.{Machine}
 use Rattle.sched_calls.specs.Reply.{Answer}
 use Rattle.frame_picture.specs.declared.span.Span.{Span}
-use Rattle.frame_picture.specs.Picture.{picture_text}
+use Rattle.frame_picture.specs.Picture.{plan_text}
 use Rattle.sched_history.specs.Answer.{MakesCall}
 use Rattle.draw_command.specs.Drawing.{lacks_memory, MakesWhole, DrawsLeaving}
 use Rattle.sched_lines.proofs.Fitting.{all-push}
@@ -24,7 +24,7 @@ MakesWhole-push old mid new calls i d answer below whole one had = record {
 
 -- all calls, and the picture of their MAPs
 pub Draws-whole : (old new : Machine) (span : Span) (calls : List Call) (before after : Option (List ℕ))
-    (unrecorded : ℕ) → MakesWhole old new calls → Appends before after (picture_text old.config span new.history)
+    (unrecorded : ℕ) → MakesWhole old new calls → Appends before after (plan_text old.config span new.history)
     → unrecorded + length new.history ≡ length calls → DrawsLeaving old.config span calls before after unrecorded
 Draws-whole old new span calls before after unrecorded whole written count = record {
   draws = record {

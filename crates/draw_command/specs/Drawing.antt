@@ -11,7 +11,7 @@ use Rattle.script_reading.specs.Script.{Scenario}
 use Rattle.script_reading.specs.Outcome.{StandsFor}
 use Rattle.sched_calls.specs.Reply.{Answer}
 use Rattle.frame_picture.specs.declared.span.Span.{Span}
-use Rattle.frame_picture.specs.Picture.{picture_text}
+use Rattle.frame_picture.specs.Picture.{plan_text}
 use Rattle.sched_history.specs.Answer.{MayGetEach, recorded_entries, MakesCalls}
 
 -- there was no memory for the call with this answer
@@ -31,13 +31,14 @@ pub record MakesWhole (old new : Machine) (calls : List Call) : Type 0 where
   pub had_memory : HadMemory answers
 
 -- The calls are made one after the other on a scheduler without entries, there is memory for each, and the picture of
--- their frames in the span is written: the recorded ones make a legal history, call i with seat 0 and ticket i
+-- their frames in the span, all of which go by the plan, is written: the recorded ones make a legal history, call i
+-- with seat 0 and ticket i
 pub record Draws (c : Config) (span : Span) (calls : List Call) (before after : Option (List ℕ)) : Type 0 where
   pub answers : List Answer
   pub each : MayGetEach c [] 0 calls answers
   pub legal : IsLegal c (recorded_entries 0 calls answers)
   pub had_memory : HadMemory answers
-  pub written : Appends before after (picture_text c span (recorded_entries 0 calls answers))
+  pub written : Appends before after (plan_text c span (recorded_entries 0 calls answers))
 
 -- The reader's bytes are a script, and the picture of its frames in the span was written, and nothing else
 pub record Drawn (span : Span) (unread left written_before written_after : Option (List ℕ)) : Type 0 where

@@ -10,20 +10,20 @@ use Rattle.text_stream.specs.declared.run_fault.RunFault.{RunFault}
 use Rattle.text_stream.specs.declared.run_fault.RunFault.TheVariants.{Text, Threads}
 use Rattle.journal_entries.specs.declared.end.EntriesEnd.{EntriesEnd}
 use Rattle.journal_entries.specs.declared.end.EntriesEnd.TheVariants.{Bad}
-use Rattle.journal_entries.specs.Journal.{HasNoOpening, StopsJournal}
-use Rattle.journal_entries.specs.declared.entries.JournalEntries.{JournalEntries}
-use Rattle.journal_entries.specs.Next.{HasGiven}
+use Rattle.journal_entries.specs.Standing.{StandFor}
+use Rattle.journal_entries.specs.Journal.{Came, HasNoOpening, StopsJournal}
 use Rattle.journal_entries.specs.End.{EndsBehind}
 use Rattle.frame_picture.specs.declared.span.Span.{Span}
 use Rattle.frame_picture.specs.Part.{HasManyDrawn}
-use Rattle.frame_picture.specs.Picture.{picture_text}
+use Rattle.frame_picture.specs.Picture.{plan_text}
 
--- These entries stand before the end of a journal, and the picture of their frames in the span was written
+-- These entries stand before the end of a journal, and are legal, and the picture of their frames in the span, by the
+-- plan, was written
 pub record DrawnEntries (span : Span) (unread left before after : Option (List ℕ)) (end : EntriesEnd) : Type 0 where
   pub config : Configuration
   pub entries : List Entry
   pub ends : EndsBehind unread left config entries end
-  pub written : Appends before after (picture_text config span entries)
+  pub written : Appends before after (plan_text config span entries)
 
 -- The journal has no lawful configuration, and nothing was written
 pub record DrawnNothing (unread left before after : Option (List ℕ)) (end : EntriesEnd) : Type 0 where
@@ -39,9 +39,13 @@ DrawnJournal span unread left before after end =
 
 -- The first lines of a journal stand for more entries than a picture may have
 pub record HasTooManyDrawn (span : Span) (unread left : Option (List ℕ)) : Type 0 where
-  pub given : JournalEntries
-  pub stand : HasGiven unread left given
-  pub many : HasManyDrawn span given.auditor.history
+  pub lines : List (List ℕ)
+  pub behind : List ℕ
+  pub came : Came unread left lines behind
+  pub config : Configuration
+  pub entries : List Entry
+  pub stand : StandFor lines config entries
+  pub many : HasManyDrawn span entries
 
 -- why the entries of a journal are not all taken
 abbrev pub StopsEntries : Span → Option (List ℕ) → Option (List ℕ) → TextFault → Type 0

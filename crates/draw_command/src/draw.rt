@@ -6,7 +6,7 @@ ghost use Rattle.draw_command.specs.Drawing.{lacks_memory, MakesWhole, DrawsLeav
 ghost use Rattle.text_stream.specs.Watched.{FailsBy};
 ghost use Rattle.text_stream.specs.RunFault.{TellsFailedRead, TellsFailedWrite, WritesLast};
 
-use frame_picture::{Span, put_picture};
+use frame_picture::{Span, met_by_entries, put_picture};
 use minislots::Checked;
 use sched_history::{Call, Reply, Scheduler, Unrecorded, count_unrecorded, make_call};
 use script_reading::read_script;
@@ -39,6 +39,7 @@ fn make_whole(scheduler: &mut Scheduler, calls: &[Call]) -> Result<(), TextFault
 // Makes the calls of a script one after the other, and writes the picture of their MAPs. Nothing is written before
 // memory runs out. Answers how many calls were not recorded.
 fn draw_calls<W: Sink>(
+    alloc: Global,
     scheduler: &mut Scheduler,
     config: &Checked,
     calls: &[Call],
@@ -59,7 +60,11 @@ fn draw_calls<W: Sink>(
     make_whole(scheduler, calls)?;
     // A history has no more entries than calls are recorded, and so few may be drawn.
     let _most = config.calls();
-    put_picture(writer, config, span, scheduler.history())?;
+    let entries = scheduler.history();
+    let Ok(met) = met_by_entries(alloc, config, entries) else {
+        return Err(TextFault::Memory);
+    };
+    put_picture(writer, config, span, &met, entries)?;
     Ok(count_unrecorded(scheduler, calls))
 }
 
@@ -92,6 +97,6 @@ pub fn draw_script<R: Source, W: Sink>(
     let Ok(mut scheduler) = Scheduler::open(alloc, config) else {
         return Err(RunFault::Text(TextFault::Memory));
     };
-    let unrecorded = draw_calls(&mut scheduler, &config, &calls, span, writer)?;
+    let unrecorded = draw_calls(alloc, &mut scheduler, &config, &calls, span, writer)?;
     Ok(unrecorded)
 }

@@ -1,93 +1,89 @@
 //! The picture of a journal.
 
-ghost use Rattle.std.specs.Prelude.{◌≡◌, ◌≤◌, [], List, ℕ, Option, IfOk, OnOk, IfErr};
-ghost use Rattle.sched_calls.specs.declared.reply.TheConstants.{MAX_WHOLE_HISTORY};
+ghost use Rattle.std.specs.Prelude.{◌≡◌, [], List, ℕ, Option, IfOk, OnOk, IfErr};
 ghost use Rattle.frame_picture.specs.Part.{HasTaken};
 ghost use Rattle.text_stream.specs.Watched.{FailsBy};
 ghost use Rattle.text_stream.specs.RunFault.{TellsFailedRead, TellsFailedWrite, WritesLast};
-ghost use Rattle.journal_entries.specs.Next.{HasGiven};
+ghost use Rattle.journal_entries.specs.Unjudged.{HasRead};
 ghost use Rattle.journal_entries.specs.End.{EndsBehind};
 ghost use Rattle.draw_command.specs.Journal.{DrawnEntries, DrawnJournal, StopsEntries, StopsJournalDrawing};
 
 use frame_picture::{Part, Span, put_part};
-use journal_entries::{EntriesEnd, JournalEntries, Next};
+use journal_entries::{EntriesEnd, Read, UnjudgedEntries};
 use minislots::Checked;
-use sched_history::MAX_WHOLE_HISTORY;
+use sched_history::{JudgeFault, MAX_WHOLE_HISTORY};
 use std::alloc::Global;
 use text_stream::{RunFault, Sink, Source, TextFault};
 
-// Takes the entries of a journal, up to what ends it.
+// Takes the entries of a journal, each of which the part judges, up to what ends it.
 fn take_entries<R: Source>(
     part: &mut Part,
-    entries: &mut JournalEntries,
+    entries: &mut UnjudgedEntries,
     reader: &mut R,
 ) -> Result<EntriesEnd, TextFault>
-    requires none { entries.old.auditor.history ≡ [] }
-    requires fresh { HasTaken part.old [] }
+    requires none { part.old.auditor.history ≡ [] }
+    requires fresh { HasTaken part.old }
 
     ensures takes { IfOk result (λ end. (before : Option (List ℕ)) →
-        HasGiven before (R.remaining reader.old) entries.old →
-        EndsBehind before (R.remaining reader.new)
-        entries.old.auditor.config entries.new.auditor.history end) }
-    ensures taken { OnOk result (HasTaken part.new entries.new.auditor.history) }
-    ensures near { OnOk result (part.new.total ≤ MAX_WHOLE_HISTORY) }
-    ensures scale { OnOk result (part.new.scale ≡ part.old.scale) }
+        HasRead before (R.remaining reader.old) entries.old part.old.config [] →
+        EndsBehind before (R.remaining reader.new) part.old.config part.new.auditor.history end) }
+    ensures taken { OnOk result (HasTaken part.new) }
+    ensures config { OnOk result (part.new.config ≡ part.old.config) }
     ensures span { OnOk result (part.new.span ≡ part.old.span) }
     ensures stops { IfErr result (λ fault. (before : Option (List ℕ)) →
-        HasGiven before (R.remaining reader.old) entries.old →
+        HasRead before (R.remaining reader.old) entries.old part.old.config [] →
         StopsEntries part.old.span before (R.remaining reader.new) fault) }
     ensures failed { FailsBy TextFault.Input result
         (R.has_failed reader.old) (R.has_failed reader.new) }
 {
-    for _ in 0..=MAX_WHOLE_HISTORY {
+    for place in 0..=MAX_WHOLE_HISTORY {
         match entries.next(reader) {
-            Ok(Next::Entry(entry)) => match part.take(entry) {
+            Ok(Read::Entry(entry)) => match part.take(entry) {
                 Ok(()) => {}
-                Err(fault) => return Err(fault),
+                Err(JudgeFault::Illegal) => return Ok(EntriesEnd::Illegal(place)),
+                Err(JudgeFault::Full) => return Err(TextFault::TooLong),
+                Err(JudgeFault::Memory) => return Err(TextFault::Memory),
             },
-            Ok(Next::Illegal(place)) => return Ok(EntriesEnd::Illegal(place)),
-            Ok(Next::Bad(line)) => return Ok(EntriesEnd::Bad(line)),
-            Ok(Next::End(torn)) => return Ok(EntriesEnd::Legal(torn)),
+            Ok(Read::NoEntry) => return Ok(EntriesEnd::Bad(place + 1)),
+            Ok(Read::End(torn)) => return Ok(EntriesEnd::Legal(torn)),
             Err(fault) => return Err(fault),
         }
     }
-    // Fewer entries are given than there were turns.
-    let _most = entries.auditor.taken();
-    Err(TextFault::TooLong)
+    // Fewer entries are taken than there were turns.
+    unreachable!()
 }
 
 // Draws the entries that come, once all have come.
 fn draw_entries<R: Source, W: Sink>(
     alloc: Global,
-    mut entries: JournalEntries,
+    mut entries: UnjudgedEntries,
     config: &Checked,
     reader: &mut R,
     span: Span,
     writer: &mut W,
 ) -> Result<EntriesEnd, RunFault>
-    requires none { entries.auditor.history ≡ [] }
-    requires same { entries.auditor.config ≡ config.now }
-
     ensures draws { IfOk result (λ end. (before : Option (List ℕ)) →
-        HasGiven before (R.remaining reader.old) entries →
+        HasRead before (R.remaining reader.old) entries config.now [] →
         DrawnEntries span before (R.remaining reader.new)
         (W.contents writer.old) (W.contents writer.new) end) }
     ensures stops { IfErr result (λ fault. (before : Option (List ℕ)) →
-        HasGiven before (R.remaining reader.old) entries →
+        HasRead before (R.remaining reader.old) entries config.now [] →
         StopsJournalDrawing span before (R.remaining reader.new) fault) }
     ensures quiet { WritesLast result writer.old writer.new }
     ensures failed_read { TellsFailedRead result
         (R.has_failed reader.old) (R.has_failed reader.new) }
     ensures failed_write { (before : Option (List ℕ)) →
-        HasGiven before (R.remaining reader.old) entries →
+        HasRead before (R.remaining reader.old) entries config.now [] →
         TellsFailedWrite result (W.has_failed writer.old) (W.has_failed writer.new) }
 {
-    let mut part = Part::none(alloc, config, span);
+    let Ok(mut part) = Part::open(alloc, config, span) else {
+        return Err(RunFault::Text(TextFault::Memory));
+    };
     let end = match take_entries(&mut part, &mut entries, reader) {
         Ok(end) => end,
         Err(fault) => return Err(RunFault::Text(fault)),
     };
-    put_part(writer, config, &mut part)?;
+    put_part(writer, &mut part)?;
     Ok(end)
 }
 
@@ -102,8 +98,8 @@ pub fn draw_journal<R: Source, W: Sink>(
     span: Span,
     writer: &mut W,
 ) -> Result<EntriesEnd, RunFault>
-    // What was written is the picture of the frames in the span of all entries that may stand before the end, and
-    // nothing else.
+    // What was written is the picture of the frames in the span of all entries that may stand before the end, by the
+    // plan, and nothing else.
     ensures ok { IfOk result (DrawnJournal span (R.remaining reader.old) (R.remaining reader.new)
         (W.contents writer.old) (W.contents writer.new)) }
 
@@ -118,7 +114,7 @@ pub fn draw_journal<R: Source, W: Sink>(
     ensures failed_write { TellsFailedWrite result
         (W.has_failed writer.old) (W.has_failed writer.new) }
 {
-    match JournalEntries::open(alloc, reader) {
+    match UnjudgedEntries::open(alloc, reader) {
         Ok(Some((config, entries))) => draw_entries(alloc, entries, &config, reader, span, writer),
         Ok(None) => Ok(EntriesEnd::Bad(0)),
         Err(fault) => Err(RunFault::Text(fault)),

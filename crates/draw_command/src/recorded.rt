@@ -4,14 +4,15 @@ ghost use Rattle.std.specs.Prelude.{OnOk, IfErr};
 ghost use Rattle.draw_command.specs.Recorded.{DrawnHistory, StopsHistoryDrawing};
 ghost use Rattle.text_stream.specs.RunFault.{TellsFailedRead, TellsFailedWrite, WritesLast};
 
-use frame_picture::{Span, put_picture};
+use frame_picture::{Span, met_by_entries, put_picture};
 use history_reading::read_history;
 use std::alloc::Global;
-use text_stream::{RunFault, Sink, Source};
+use text_stream::{RunFault, Sink, Source, TextFault};
 
 /// Reads a history, a configuration and entries in JSON, to the reader's end, and writes the picture of its frames in
-/// this span in SVG, as they stand, whether it is legal or not. Nothing is written before another fault than one of
-/// output.
+/// this span in SVG, as they stand, whether it is legal or not. What begins where the plan meets an opportunity is
+/// that; from the first illegal entry on there is no plan, and the words of the elements alone tell. Nothing is written
+/// before another fault than one of output.
 pub fn draw_history<R: Source, W: Sink>(
     alloc: Global,
     reader: &mut R,
@@ -34,6 +35,9 @@ pub fn draw_history<R: Source, W: Sink>(
         (W.has_failed writer.old) (W.has_failed writer.new) }
 {
     let (config, entries) = read_history(alloc, reader)?;
-    put_picture(writer, &config, span, &entries)?;
+    let Ok(met) = met_by_entries(alloc, &config, &entries) else {
+        return Err(RunFault::Text(TextFault::Memory));
+    };
+    put_picture(writer, &config, span, &met, &entries)?;
     Ok(())
 }

@@ -11,6 +11,7 @@ mod notes;
 mod objects;
 mod one_line;
 mod place;
+mod settling;
 mod sort;
 mod tell;
 mod walk;

@@ -3,7 +3,7 @@
 use super::nearest::nearest;
 use super::notes::Notes;
 use super::place::Place;
-use super::sort::{FOR_ALL_MODEMS, REQUEST, forms_of, name_key, named};
+use super::sort::{REQUEST, forms_of, members_beside, name_key, named};
 use super::tell::tell_near;
 use super::written::{Part, find, shown, text_of};
 use json_fields::forms::{Form, Holds, Member, Missing, Sort};
@@ -27,8 +27,23 @@ impl Notes {
         }
     }
 
+    /// That a name, which is written so, is none of these.
+    pub fn tell_name(
+        &mut self,
+        place: Place,
+        key: &str,
+        names: &[&'static str],
+        name: &str,
+        written: &[u8],
+    ) -> Result<(), AllocError> {
+        let near = nearest(self.alloc, name, names)?;
+        let found = shown(written);
+        write!(self.here, "{place}: \"{key}\" is {found}")?;
+        tell_near(&mut self.here, near, names)
+    }
+
     // That no form of these has a name, which is written so.
-    fn tell_name(
+    fn tell_no_form(
         &mut self,
         place: Place,
         key: &str,
@@ -40,10 +55,7 @@ impl Notes {
         for form in forms {
             names.push(form.0)?;
         }
-        let near = nearest(self.alloc, name, &names)?;
-        let found = shown(written);
-        write!(self.here, "{place}: \"{key}\" is {found}")?;
-        tell_near(&mut self.here, near, &names)
+        self.tell_name(place, key, &names, name, written)
     }
 
     // The form of an object, by its name where there is more than one. What is wrong with the name is told.
@@ -67,7 +79,7 @@ impl Notes {
         let form = named(forms, &name);
         match form {
             Some(_) => self.count(sort, &name),
-            None => self.tell_name(place, key, forms, &name, written)?,
+            None => self.tell_no_form(place, key, forms, &name, written)?,
         }
         Ok(form)
     }
@@ -84,8 +96,8 @@ impl Notes {
         };
         let usage = find(self.alloc, parts, "usage")?.0.unwrap_or(b"");
         match text_of(self.alloc, usage)? {
-            Some(usage) if usage.as_str() == "initial" => Ok(&FOR_ALL_MODEMS),
-            _ => Ok(form.1),
+            Some(usage) => Ok(members_beside(&usage).unwrap_or(form.1)),
+            None => Ok(form.1),
         }
     }
 

@@ -5,12 +5,50 @@ use json_fields::forms::{
     LIST_OF_ENTRIES, LIST_OF_SCRIPTS, Member, Missing, PROFILES, REPLIES, SCRIPTS, STORMS, Sort,
 };
 
-/// The members of a Reserve for all modems. An SID beside them is a key that nobody reads.
-pub static FOR_ALL_MODEMS: [Member; 3] = [
-    ("call", Holds::Name, Missing::Fault),
-    ("usage", Holds::Name, Missing::Fault),
-    ("slots", Holds::Number(u32::MAX as u64), Missing::Fault),
+/// The usages of a Reserve.
+pub static USAGES: [&'static str; 6] = [
+    "initial",
+    "station",
+    "initial_to",
+    "request",
+    "quiet",
+    "data",
 ];
+
+const CALL: Member = ("call", Holds::Name, Missing::Fault);
+
+const USAGE: Member = ("usage", Holds::Name, Missing::Fault);
+
+const SLOTS: Member = ("slots", Holds::Number(u32::MAX as u64), Missing::Fault);
+
+// The members of a Reserve for all modems or for none. An SID beside them is a key that nobody reads.
+static FOR_ALL_OR_NONE: [Member; 3] = [CALL, USAGE, SLOTS];
+
+// The members of a Reserve for one modem.
+static FOR_ONE: [Member; 4] = [
+    CALL,
+    USAGE,
+    (
+        "sid",
+        Holds::Lawful(u16::MAX as u64, 1, 8191),
+        Missing::Nothing,
+    ),
+    SLOTS,
+];
+
+/// The members of a Reserve of this usage, where its form says too little of them.
+pub fn members_beside(usage: &str) -> Option<&'static [Member]> {
+    match usage {
+        "initial" | "quiet" => Some(&FOR_ALL_OR_NONE),
+        "initial_to" | "station" | "data" => Some(&FOR_ONE),
+        _ => None,
+    }
+}
+
+/// Whether modems that send requests have this SID: one modem, those with traffic of some priorities, or all.
+pub fn is_of_requests(sid: u64) -> bool {
+    matches!(sid, 1..=8191 | 15873..=16127 | 16383)
+}
 
 /// The burst profile of requests, which may stand among burst descriptors: `check` and `bursts` alone read it.
 pub const REQUEST: Member = ("request", Holds::Object(Sort::Profile), Missing::Nothing);

@@ -2,7 +2,7 @@
 
 use super::notes::Notes;
 use super::place::Place;
-use super::sort::list_of;
+use super::sort::{USAGES, is_of_requests, list_of};
 use super::written::{Part, begins, find, parts, shown, text_of, whole};
 use json_fields::forms::{Holds, Kind, Member, Sort};
 use std::alloc::AllocError;
@@ -51,21 +51,36 @@ impl Notes {
         )
     }
 
-    // What is wrong with the usage of a Reserve, or with one of a station that has no SID beside it.
+    // That each run refuses a Reserve of requests with this SID. The form says what the least and the most are.
+    fn tell_sid_of_requests(&mut self, place: Place, written: &[u8]) -> Result<(), AllocError> {
+        let sid = whole(written).unwrap_or(0);
+        if sid == 0 || sid > 16383 || is_of_requests(sid) {
+            return Ok(());
+        }
+        if !place.is_in_script() || !self.refused.takes_one() {
+            return Ok(());
+        }
+        writeln!(
+            self.refused.words,
+            "{place}: \"sid\" is {sid}, and not from 1 to 8191, from 15873 to 16127 or 16383: each run refuses this"
+        )
+    }
+
+    // What is wrong with the usage of a Reserve, and with the SID beside it or none.
     fn tell_usage(&mut self, place: Place, parts: &[Part]) -> Result<(), AllocError> {
         let written = find(self.alloc, parts, "usage")?.0.unwrap_or(b"");
         let Some(usage) = text_of(self.alloc, written)? else {
             return Ok(());
         };
-        let has_sid = find(self.alloc, parts, "sid")?.0.is_some();
-        match usage.as_str() {
-            "initial" => Ok(()),
-            "station" if has_sid => Ok(()),
-            "station" => writeln!(self.here, "{place}: \"sid\" is missing, beside \"station\""),
-            _ => writeln!(
-                self.here,
-                "{place}: \"usage\" is neither \"initial\" nor \"station\""
-            ),
+        let sid = find(self.alloc, parts, "sid")?.0;
+        let name = usage.as_str();
+        match (name, sid) {
+            ("initial" | "quiet", _) | ("initial_to" | "station" | "data", Some(_)) => Ok(()),
+            ("request", Some(sid)) => self.tell_sid_of_requests(place, sid),
+            ("initial_to" | "station" | "request" | "data", None) => {
+                writeln!(self.here, "{place}: \"sid\" is missing, beside \"{name}\"")
+            }
+            _ => self.tell_name(place, "usage", &USAGES, name, written),
         }
     }
 

@@ -5,6 +5,7 @@ use super::config::tell_field;
 use super::counts::{tell_frame, tell_unrecorded};
 use super::json_text::tell_text;
 use super::notes::Notes;
+use super::settling::tell_settle;
 use json_fields::forms::Kind;
 use minislots::Config;
 use serde_json::Value;
@@ -57,6 +58,7 @@ pub fn words_on(
         Ok(config) => {
             tell_good(&mut words, kind, &config, &notes, scripts)?;
             tell_bursts(&mut words, &config, document)?;
+            tell_settle(&mut words, &config)?;
         }
         Err(TextFault::Config(field)) => tell_field(&mut words, document, field)?,
         Err(_) => {}

@@ -12,7 +12,7 @@ use Rattle.flow_book.specs.declared.flow.Flow.{Flow}
 use Rattle.flow_book.specs.Flows.{LiveFlow, flow_of}
 use Rattle.flow_book.specs.Entry.{live, room_in, IsSoundFlow, IsSoundBook}
 use Rattle.flow_book.specs.Book.{Room, KeepsRoom, room_of, with_flow}
-use Rattle.flow_book.proofs.Insertion.{all-put_in, ascends-put_in}
+use Rattle.sched_calls.proofs.Insertion.{all-put_in, ascends-put_in}
 use Rattle.flow_book.proofs.Places.{find-map, flow_of-live}
 
 -- with a sound flow of a new SID the flows are sound

@@ -6,6 +6,7 @@ use Rattle.std.proofs.lemmas.Bool.Decides.{nat_tests}
 use Rattle.std.proofs.lemmas.List.{map-set, length-map}
 use Rattle.std.proofs.lemmas.List.Elements.{All-from_recursion}
 use Rattle.minislots.specs.declared.config.Config.{Config}
+use Rattle.sched_calls.proofs.Insertion.{all-set}
 use Rattle.flow_book.specs.declared.flow.Flow.{Flow}
 use Rattle.std.proofs.lemmas.List.Sums.{sum_by-append}
 use Rattle.flow_book.specs.declared.flow.Grant.{Grant}
@@ -16,13 +17,6 @@ use Rattle.flow_book.specs.Entry.{live, IsSoundFlow, IsSoundBook}
 use Rattle.flow_book.specs.Book.{Ascend, Room, BookView, changed, with_asked, with_replaced}
 use Rattle.flow_book.proofs.Periods.{period-more}
 use Rattle.flow_book.proofs.Places.{StandsAt, all-found}
-
--- what holds of each, and of the one that is put in, holds of each then
-pub all-set : {X : Type 0} (P : X → Type 0) (xs : List X) (i : ℕ) (x : X) → AllByRecursion P xs → P x
-    → AllByRecursion P (set xs i x)
-all-set P [] i x all here = tt
-all-set P (y ∷ xs) zero x all here = (here, all.1)
-all-set P (y ∷ xs) (suc i) x all here = (all.0, all-set P xs i x all.1 here)
 
 -- SIDs ascend where a flow takes the place of one with its SID
 ascend-all : (a b : ℕ) (flows : List LiveFlow) → a ≡ b → AllByRecursion (λ g. b < g.sid) flows

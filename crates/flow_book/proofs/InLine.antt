@@ -16,10 +16,10 @@ use Rattle.flow_book.specs.Flows.{LiveFlow}
 use Rattle.flow_book.specs.Choice.{last_start}
 use Rattle.flow_book.specs.Entry.{live, IsTurn, KeepsSums}
 use Rattle.flow_book.specs.Book.{Ascend}
-use Rattle.flow_book.specs.Sids.{AscendBy, put_in}
+use Rattle.sched_calls.specs.Sids.{AscendBy, put_in}
 use Rattle.flow_book.specs.Shown.{waits, since, comes_before, count_before, is_shown, is_hidden, least_with, ack_of, IsFirstHidden, number_of, number_in_line}
 use Rattle.flow_book.specs.Line.{numbers_of, itself, sorted_into, sorted, comes_first, held_back}
-use Rattle.flow_book.proofs.Insertion.{all-put_in}
+use Rattle.sched_calls.proofs.Insertion.{all-put_in}
 use Rattle.flow_book.proofs.Lines.{IsNew, ascends-more, all-sorted_into, length-sorted_into, count-sorted_into}
 use Rattle.flow_book.proofs.Lines.{count-below, count-kept, count-same, count-more, count-one_more}
 

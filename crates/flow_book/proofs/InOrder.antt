@@ -10,14 +10,14 @@ use Rattle.std.proofs.lemmas.List.Elements.{All-from_recursion, recursion_from_A
 use Rattle.std.proofs.lemmas.List.Sorted.{sum_by-IsPermutation}
 use Rattle.flow_book.specs.Flows.{LiveFlow}
 use Rattle.flow_book.specs.Book.{Ascend}
-use Rattle.flow_book.specs.Sids.{AscendBy, put_in}
+use Rattle.sched_calls.specs.Sids.{AscendBy, put_in}
 use Rattle.flow_book.specs.Shown.{waits, number_in_line, is_shown}
 use Rattle.flow_book.specs.Line.{itself, IsInOrder, sorted_into, sorted, sid_of, numbers_of}
 use Rattle.flow_book.proofs.InLine.{all-shown, few-wait, some-hidden, ascends}
 use Rattle.flow_book.proofs.Lines.{order-put_in, count-cons, count-kept, count-same, count-sorted_into}
 use Rattle.flow_book.proofs.Matching.{all-map, filter-same}
 use Rattle.flow_book.proofs.Order.{all-implied}
-use Rattle.flow_book.proofs.Removal.{ascends-filter}
+use Rattle.sched_calls.proofs.Removal.{ascends-filter}
 
 none-lower : (n : ℕ) (xs : List ℕ) → AllByRecursion (λ x. n ≤ x) xs → count_by (λ x. nat_lt x n) xs ≡ 0
 none-lower n [] all = refl

@@ -22,7 +22,7 @@ use Rattle.flow_book.specs.Parts.{HasStartedIn, IsAheadOf, IsNextIn, IsPutIn, Is
 use Rattle.flow_book.proofs.Once.{by-turn-once, once-remove, once-alone}
 use Rattle.flow_book.proofs.Order.{all-implied}
 use Rattle.flow_book.proofs.Queues.{with-one, all-remove, in-rest, in-removed, taken-among, taken-out, among-as}
-use Rattle.flow_book.proofs.Removal.{all-filter, ascends-filter}
+use Rattle.sched_calls.proofs.Removal.{all-filter, ascends-filter}
 use Rattle.flow_book.proofs.Serving.{pick, kept-of, first-next, none-next}
 use Rattle.flow_book.proofs.StillWaiting.{all-at, kept-at, kept-index, gone-kept, kept-parts, all-parts, ascends-take}
 use Rattle.flow_book.proofs.StillWaiting.{none-served, still-queue}

@@ -4,7 +4,6 @@ pub mod Boxes
 pub mod Buckets
 pub mod Changes
 pub mod FirstGrant
-pub mod Insertion
 pub mod Levels
 pub mod Lines
 pub mod Matching

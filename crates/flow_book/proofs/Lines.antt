@@ -8,9 +8,9 @@ use Rattle.std.proofs.lemmas.Option.{slice_get-get_or, same_Some}
 use Rattle.std.proofs.lemmas.List.{take-take}
 use Rattle.std.proofs.lemmas.List.Elements.{All-from_recursion}
 use Rattle.std.proofs.lemmas.List.Sums.{sum_by-cons}
-use Rattle.flow_book.specs.Sids.{AscendBy, put_in}
+use Rattle.sched_calls.specs.Sids.{AscendBy, put_in}
 use Rattle.flow_book.specs.Line.{itself, sorted_into, IsInOrder}
-use Rattle.flow_book.proofs.Insertion.{all-put_in, length-put_in, ascends-put_in}
+use Rattle.sched_calls.proofs.Insertion.{all-put_in, length-put_in, ascends-put_in}
 
 -- the first so many with a number more are those of all with it
 take-again : (m y : ℕ) (ys : List ℕ) → take m (y ∷ take m ys) ≡ take m (y ∷ ys)

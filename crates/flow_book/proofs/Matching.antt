@@ -3,7 +3,7 @@ use Rattle.std.proofs.Common.{◌≡◌, sym, ℕ, zero, suc, ◌<◌, ◌⊎◌
 use Rattle.std.proofs.Common.{List, [], ◌∷◌, map, filter, length, get_or, refl, ◌&&◌, cond, arith}
 use Rattle.std.specs.List.{AllByRecursion, AllZip}
 use Rattle.std.proofs.lemmas.Bool.{cond_both}
-use Rattle.flow_book.specs.Sids.{AscendBy}
+use Rattle.sched_calls.specs.Sids.{AscendBy}
 
 -- one of them is such
 abbrev pub Has : {X : Type 0} → (X → Type 0) → List X → Type 0

@@ -14,14 +14,14 @@ use Rattle.flow_book.specs.declared.queue.Waiting.{Waiting}
 use Rattle.sched_calls.specs.FlowSpec.{rank_of}
 use Rattle.flow_book.specs.Choice.{last_start}
 use Rattle.flow_book.specs.Entry.{IsBook, IsTurn}
-use Rattle.flow_book.specs.Sids.{AscendBy}
+use Rattle.sched_calls.specs.Sids.{AscendBy}
 use Rattle.flow_book.specs.Queue.{IsAt, IsIn, IsQueue, IsQueueAmong, IsQueueIn, still_waits}
 use Rattle.flow_book.specs.Taking.{AreApart, AreMerged}
 use Rattle.flow_book.proofs.InParts.{in-at}
 use Rattle.flow_book.proofs.Order.{all-implied}
 use Rattle.flow_book.proofs.Queues.{with-one, flow-at, turn-at, wants-at, bucket-at, knows-at, same-turn}
 use Rattle.flow_book.proofs.Queues.{put-among, pass-among}
-use Rattle.flow_book.proofs.Removal.{all-filter}
+use Rattle.sched_calls.proofs.Removal.{all-filter}
 use Rattle.flow_book.proofs.Serving.{pick, all-here, above-back}
 use Rattle.flow_book.proofs.StillWaiting.{in-or-out, all-at, all-joined, filter-split}
 use Rattle.flow_book.proofs.TakenOver.{in-either, in-front, in-last, fresh}

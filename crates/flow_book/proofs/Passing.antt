@@ -8,7 +8,7 @@ use Rattle.std.proofs.lemmas.List.{get_or-set_other, length-set}
 use Rattle.std.proofs.lemmas.List.Edits.{length-remove, length-insert}
 use Rattle.flow_book.specs.declared.queue.Waiting.{Waiting}
 use Rattle.flow_book.specs.Queue.{still_waits, is_passed, StandsBehind}
-use Rattle.flow_book.specs.Sids.{AscendBy}
+use Rattle.sched_calls.specs.Sids.{AscendBy}
 use Rattle.flow_book.proofs.Queues.{with-one}
 use Rattle.flow_book.proofs.Sinking.{remove-next}
 use Rattle.flow_book.proofs.StillWaiting.{kept-at, gone-kept}

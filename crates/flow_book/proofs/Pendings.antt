@@ -19,7 +19,7 @@ use Rattle.flow_book.specs.Batches.{since_of}
 use Rattle.flow_book.specs.Flows.{LiveFlow, granted, outstanding}
 use Rattle.flow_book.specs.Choice.{last_start}
 use Rattle.flow_book.specs.Entry.{live, IsTurn, IsBook, IsSoundFlow}
-use Rattle.flow_book.specs.Sids.{AscendBy, put_in}
+use Rattle.sched_calls.specs.Sids.{AscendBy, put_in}
 use Rattle.flow_book.specs.Queue.{IsAt, IsIn, IsQueueIn, AreOnce, still_waits}
 use Rattle.flow_book.specs.Shown.{waits, number_of, number_in_line, is_shown, IsFirstHidden}
 use Rattle.flow_book.specs.Line.{itself, sorted_into, sorted, sid_of, numbers_of}
@@ -27,12 +27,12 @@ use Rattle.flow_book.specs.Pending.{waiting_in, sid_at, number_at, IsWaitingOf, 
 use Rattle.flow_book.specs.Overlay.{IsSameFlow}
 use Rattle.flow_book.proofs.InLine.{small-of, few-wait, some-hidden, same-behind}
 use Rattle.flow_book.proofs.InOrder.{sorted-same, order-sids, shown-few, shown-many}
-use Rattle.flow_book.proofs.Insertion.{all-put_in, ascends-put_in}
+use Rattle.sched_calls.proofs.Insertion.{all-put_in, ascends-put_in}
 use Rattle.flow_book.proofs.Lines.{put_in-either, length-sorted_into, take-put_in, sorted_into-append}
 use Rattle.flow_book.proofs.Matching.{Has, has-kept, all-kept, go-together, zip-values, zip-more}
 use Rattle.flow_book.proofs.Once.{by-turn-once}
 use Rattle.flow_book.proofs.Queues.{all-both, flow-at, turn-at, wants-at, knows-at, place-of-sid}
-use Rattle.flow_book.proofs.Removal.{all-filter, ascends-filter}
+use Rattle.sched_calls.proofs.Removal.{all-filter, ascends-filter}
 use Rattle.flow_book.proofs.StillWaiting.{in-or-out, stays-in}
 
 -- a turn ends with its SID

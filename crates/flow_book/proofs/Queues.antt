@@ -19,9 +19,9 @@ use Rattle.flow_book.specs.Choice.{last_start}
 use Rattle.flow_book.specs.Flows.{outstanding}
 use Rattle.flow_book.specs.Bucket.{BucketView}
 use Rattle.flow_book.specs.Entry.{live, IsBook, KeepsSums, KnowsTurn}
-use Rattle.flow_book.specs.Sids.{AscendBy, put_in}
+use Rattle.sched_calls.specs.Sids.{AscendBy, put_in}
 use Rattle.flow_book.specs.Queue.{entry_of, IsAt, IsIn, IsQueue, IsQueueAmong, AreSameBut}
-use Rattle.flow_book.proofs.Insertion.{all-put_in, ascends-put_in}
+use Rattle.sched_calls.proofs.Insertion.{all-put_in, ascends-put_in}
 use Rattle.flow_book.proofs.Searches.{below}
 use Rattle.flow_book.proofs.Turns.{turn-sid}
 

@@ -13,7 +13,7 @@ use Rattle.std.proofs.lemmas.List.Sums.{position_or_len_is}
 use Rattle.flow_book.specs.declared.flow.Flow.{Flow}
 use Rattle.flow_book.specs.Entry.{live}
 use Rattle.flow_book.specs.Book.{Ascend}
-use Rattle.flow_book.specs.Sids.{AscendBy}
+use Rattle.sched_calls.specs.Sids.{AscendBy}
 
 -- where numbers ascend one before another is lower
 pub rises : {X : Type 0} (number : X → ℕ) (xs : List X) (i j : ℕ) (d : X) → AscendBy number xs → i < j → j < length xs

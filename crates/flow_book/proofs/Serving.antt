@@ -23,7 +23,7 @@ use Rattle.flow_book.specs.Flows.{LiveFlow, outstanding}
 use Rattle.flow_book.specs.Choice.{last_start, is_before, IsEligible, IsNext, NoneEligible, HasStartedBy}
 use Rattle.flow_book.specs.Entry.{live, IsBook, KeepsSums, KnowsTurn}
 use Rattle.flow_book.specs.Bucket.{HaveStartedBy, most_of}
-use Rattle.flow_book.specs.Sids.{AscendBy}
+use Rattle.sched_calls.specs.Sids.{AscendBy}
 use Rattle.flow_book.specs.Queue.{IsAt, IsIn, IsPassed, IsNoEarlier, IsQueueIn, HasStartedQueue, HasStartedPart}
 use Rattle.flow_book.specs.Queue.{IsFirstAble}
 use Rattle.flow_book.specs.Queue.{IsFirstInTurn, still_waits}
@@ -33,7 +33,7 @@ use Rattle.flow_book.proofs.Steps.{all-item}
 use Rattle.flow_book.proofs.Queues.{all-both, at-within, flow-at, turn-at, wants-at, bucket-at, knows-at, one-place}
 use Rattle.flow_book.proofs.StillWaiting.{in-or-out, stays-in, kept-at, filter-split, none-served, all-joined}
 use Rattle.flow_book.proofs.Order.{all-implied}
-use Rattle.flow_book.proofs.Removal.{all-filter}
+use Rattle.sched_calls.proofs.Removal.{all-filter}
 
 -- what holds of the flow at each place holds of each
 all-places : (P : LiveFlow → Type 0) (items : List Flow)

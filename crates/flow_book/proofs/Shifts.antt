@@ -12,7 +12,7 @@ use Rattle.flow_book.specs.declared.queue.Waiting.{Waiting}
 use Rattle.flow_book.specs.Flows.{LiveFlow, outstanding}
 use Rattle.flow_book.specs.Entry.{live}
 use Rattle.flow_book.specs.Book.{Ascend}
-use Rattle.flow_book.specs.Sids.{AscendBy}
+use Rattle.sched_calls.specs.Sids.{AscendBy}
 use Rattle.flow_book.specs.Queue.{entry_of, IsAt, IsIn, IsQueue, IsQueueAmong, moved_up, moved_down}
 use Rattle.flow_book.proofs.Queues.{at-within}
 use Rattle.flow_book.proofs.Searches.{below}

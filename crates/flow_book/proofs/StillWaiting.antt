@@ -14,9 +14,9 @@ use Rattle.flow_book.specs.Flows.{outstanding}
 use Rattle.flow_book.specs.Entry.{live}
 use Rattle.flow_book.specs.Queue.{IsAt, IsIn, IsQueue, IsQueueIn, IsOrderIn, still_waits}
 use Rattle.flow_book.proofs.Queues.{wants-at}
-use Rattle.flow_book.specs.Sids.{AscendBy}
+use Rattle.sched_calls.specs.Sids.{AscendBy}
 use Rattle.flow_book.proofs.Order.{all-implied}
-use Rattle.flow_book.proofs.Removal.{all-filter, ascends-filter}
+use Rattle.sched_calls.proofs.Removal.{all-filter, ascends-filter}
 
 -- a place in the queue, or not
 pub in-or-out : (place : ℕ) (queue : List Waiting) → IsIn place queue ⊎ (IsIn place queue → ⊥)

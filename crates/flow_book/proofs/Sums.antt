@@ -15,7 +15,8 @@ use Rattle.flow_book.specs.Flows.{LiveFlow, bytes_of, granted, with_grant}
 use Rattle.flow_book.specs.Book.{with_spec}
 use Rattle.flow_book.specs.Choice.{last_start, MayGrant, KeepsWith}
 use Rattle.flow_book.specs.Entry.{live, asked_more, asked_instead, IsSoundFlow, KeepsSums, IsCopy, IsBook}
-use Rattle.flow_book.proofs.Changes.{all-set, placed-sound, placed-is_sound, asked-sound, replaced-sound, granted-sound}
+use Rattle.sched_calls.proofs.Insertion.{all-set}
+use Rattle.flow_book.proofs.Changes.{placed-sound, placed-is_sound, asked-sound, replaced-sound, granted-sound}
 use Rattle.flow_book.proofs.Windows.{one_more, bytes-one}
 use Rattle.flow_book.proofs.Places.{StandsAt, all-found}
 

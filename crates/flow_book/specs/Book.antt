@@ -6,7 +6,7 @@ use Rattle.sched_calls.specs.declared.spec.FlowSpec.{FlowSpec}
 use Rattle.sched_calls.specs.FlowSpec.{rate_of, burst_of}
 use Rattle.flow_book.specs.Batches.{no_batches, with_request}
 use Rattle.flow_book.specs.Flows.{LiveFlow, flow_of, granted}
-use Rattle.flow_book.specs.Sids.{AscendBy, put_in, taken_out}
+use Rattle.sched_calls.specs.Sids.{AscendBy, put_in, taken_out}
 
 -- how many more grants of this flow fit with no memory
 pub record Room : Type 0 where

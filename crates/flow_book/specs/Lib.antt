@@ -8,7 +8,6 @@ pub mod Lending
 pub mod FlowList
 pub mod Ceiling
 pub mod Bucket
-pub mod Sids
 pub mod Choice
 pub mod Book
 pub mod Entry

@@ -3,7 +3,7 @@ use Rattle.std.specs.Prelude.{ℕ, ◌/◌, ◌%◌, ◌^◌, ◌≤◌, min, Bo
 use Rattle.std.specs.List.{AllByRecursion}
 use Rattle.flow_book.specs.declared.shown.Hidden.{Hidden}
 use Rattle.flow_book.specs.Flows.{LiveFlow}
-use Rattle.flow_book.specs.Sids.{put_in}
+use Rattle.sched_calls.specs.Sids.{put_in}
 use Rattle.flow_book.specs.Shown.{waits, number_in_line}
 
 -- the numbers of the flows that wait

@@ -10,7 +10,7 @@ use Rattle.flow_book.specs.declared.parts.Standing.TheVariants.{Queued, Served}
 use Rattle.flow_book.specs.Choice.{HasStartedBy, IsNext}
 use Rattle.flow_book.specs.Bucket.{most_of, HasOneMore, StaysSettled}
 use Rattle.flow_book.specs.Entry.{live, IsBook, IsTurn}
-use Rattle.flow_book.specs.Sids.{put_in}
+use Rattle.sched_calls.specs.Sids.{put_in}
 use Rattle.flow_book.specs.Queue.{IsAt, IsIn, IsQueueAmong, IsQueueIn, AreOnce, still_waits}
 
 -- the one that stands there

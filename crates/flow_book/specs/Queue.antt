@@ -9,7 +9,7 @@ use Rattle.flow_book.specs.Flows.{outstanding}
 use Rattle.flow_book.specs.Bucket.{BucketView}
 use Rattle.flow_book.specs.Choice.{HasStartedBy, IsEligible, IsNext}
 use Rattle.flow_book.specs.Entry.{live, IsBook}
-use Rattle.flow_book.specs.Sids.{AscendBy, put_in}
+use Rattle.sched_calls.specs.Sids.{AscendBy, put_in}
 
 -- a flow's turn, the bytes that it waits for, and its bucket
 abbrev pub entry_of : Flow → ℕ × ℕ × BucketView

@@ -9,7 +9,7 @@ ghost use Rattle.flow_book.specs.declared.flow.Flow.{Flow};
 ghost use Rattle.flow_book.specs.declared.queue.Waiting.{Waiting};
 ghost use Rattle.flow_book.specs.Choice.{NoneEligible};
 ghost use Rattle.flow_book.specs.Entry.{live, IsRoom};
-ghost use Rattle.flow_book.specs.Sids.{AscendBy, put_in};
+ghost use Rattle.sched_calls.specs.Sids.{AscendBy, put_in};
 ghost use Rattle.flow_book.specs.Queue.{IsOrderIn, IsQueueIn, IsShortQueue, HasRoom, NoneWaitsBefore, still_waits};
 ghost use Rattle.flow_book.specs.declared.parts.Standing.TheVariants.{Queued};
 ghost use Rattle.flow_book.specs.Parts.{one_at, HasStartedIn, IsAheadOf, IsNextIn, IsPutIn, IsPutBack, IsGranted, IsServedFirst};

@@ -11,7 +11,7 @@ ghost use Rattle.flow_book.specs.Flows.{granted, outstanding};
 ghost use Rattle.flow_book.specs.Choice.{NoneEligible};
 ghost use Rattle.flow_book.specs.Bucket.{most_of, HasOneMore, StaysSettled};
 ghost use Rattle.flow_book.specs.Entry.{live, IsBook, IsRoom, IsTurn};
-ghost use Rattle.flow_book.specs.Sids.{AscendBy, put_in};
+ghost use Rattle.sched_calls.specs.Sids.{AscendBy, put_in};
 ghost use Rattle.flow_book.specs.Queue.{IsQueue, IsQueueAmong, IsMoved, AreSameBut, moved_up, moved_down};
 ghost use Rattle.flow_book.specs.Queue.{HasStartedQueue, HasStartedPart, IsFirstInTurn, IsFirstAble, IsPassed};
 ghost use Rattle.flow_book.specs.Queue.{NoneWaitsBefore, StandsBehind, is_passed, still_waits};

@@ -9,7 +9,7 @@ ghost use Rattle.flow_book.specs.declared.flow.Flow.{Flow};
 ghost use Rattle.flow_book.specs.Entry.{live, IsBook};
 ghost use Rattle.flow_book.specs.Queue.{still_waits, IsQueueIn};
 ghost use Rattle.flow_book.specs.Shown.{is_shown, ack_of, number_of};
-ghost use Rattle.flow_book.specs.Sids.{put_in};
+ghost use Rattle.sched_calls.specs.Sids.{put_in};
 ghost use Rattle.flow_book.specs.Line.{itself, IsInOrder, sorted_into, sorted, sid_of, held_back};
 ghost use Rattle.flow_book.specs.Overlay.{IsSameFlow};
 ghost use Rattle.flow_book.specs.Pending.{waiting_in, sid_at, number_at};

@@ -10,6 +10,9 @@ use Rattle.std.proofs.lemmas.List.FromFn.{map-range_with_len_more}
 use Rattle.map_drawing.proofs.Ranges.{flat_map_next}
 use Rattle.text_stream.specs.declared.fault.TextFault.{TextFault}
 use Rattle.text_stream.specs.declared.fault.TextFault.TheVariants.{Output}
+use Rattle.map_build.specs.declared.met.Met.{Met}
+use Rattle.sched_calls.specs.declared.reply.Entry.{Entry}
+use Rattle.sched_calls.specs.declared.reply.Reply.{Reply}
 use Rattle.frame_picture.specs.declared.bar.Bar.{Bar}
 use Rattle.frame_picture.specs.declared.layout.Scale.{Scale}
 use Rattle.frame_picture.specs.declared.span.Place.{Place}
@@ -39,18 +42,19 @@ then_text a b c x y old mid new (Ok v) first next = (Appends-trans a b c x y fir
 then_text a b c x y old mid new (Err e) first next = next
 
 -- the rows of frames, and then of others
-pub rows_text-append : (scale : Scale) (from row : ℕ) (fs gs : List Frame)
-    → rows_text scale from row (fs ++ gs) ≡ rows_text scale from row fs ++ rows_text scale from (row + length fs) gs
-rows_text-append scale from row [] gs =
+pub rows_text-append : (scale : Scale) (met : List Entry → Reply → List Met) (from row : ℕ) (fs gs : List Frame)
+    → rows_text scale met from row (fs ++ gs)
+    ≡ rows_text scale met from row fs ++ rows_text scale met from (row + length fs) gs
+rows_text-append scale met from row [] gs =
     let same : row + 0 ≡ row = omega arith in rw same refl
-rows_text-append scale from row (f ∷ fs) gs =
+rows_text-append scale met from row (f ∷ fs) gs =
     let place : Place = record { number = from + row; row = row } in
     let same : row + 1 + length fs ≡ row + length (f ∷ fs) = omega arith in
-    ap (λ (t : List ℕ). row_text scale place f ++ t)
-    (rows_text-append scale from (row + 1) fs gs
-    ∙ ap (λ (k : ℕ). rows_text scale from (row + 1) fs ++ rows_text scale from k gs) same)
-    ∙ sym (append_assoc (row_text scale place f) (rows_text scale from (row + 1) fs)
-    (rows_text scale from (row + length (f ∷ fs)) gs))
+    ap (λ (t : List ℕ). row_text scale met place f ++ t)
+    (rows_text-append scale met from (row + 1) fs gs
+    ∙ ap (λ (k : ℕ). rows_text scale met from (row + 1) fs ++ rows_text scale met from k gs) same)
+    ∙ sym (append_assoc (row_text scale met place f) (rows_text scale met from (row + 1) fs)
+    (rows_text scale met from (row + length (f ∷ fs)) gs))
 
 -- a text that waits behind nothing, and is written
 pub Appends-whole : (a b c : Option (List ℕ)) (waiting text : List ℕ)

@@ -14,6 +14,8 @@ use Rattle.map_codec.specs.Element.{element_at, IsInRange}
 use Rattle.map_codec.specs.Element.{no_element}
 use Rattle.map_codec.specs.WireMap.{IsWellFormed}
 use Rattle.map_codec.proofs.Spelling.{in_range_at}
+use Rattle.map_build.specs.declared.met.Met.{Met}
+use Rattle.map_build.specs.Reading.{meets_at}
 use Rattle.map_drawing.specs.Allocation.{front_length}
 use Rattle.sched_calls.specs.declared.frame_map.FrameMap.{FrameMap}
 use Rattle.sched_calls.specs.declared.reply.TheConstants.{MAX_ENTRIES}
@@ -47,27 +49,30 @@ small_sid es i fits =
     ]
 
 -- where two tests agree on the SIDs of elements, the bars are the same
-same_bars : (units : ℕ) (p q : ℕ → Bool) (es : List Element) (bytes : List ℕ)
+same_bars : (units : ℕ) (p q : ℕ → Bool) (met : List Met) (es : List Element) (bytes : List ℕ)
     → ((i : ℕ) → p (element_at es i).sid ≡ q (element_at es i).sid)
-    → (n : ℕ) → map (bar_at units p es bytes) (range_with_len 0 n) ≡ map (bar_at units q es bytes) (range_with_len 0 n)
-same_bars units p q es bytes agree zero = refl
-same_bars units p q es bytes agree (suc n) =
-    let step : map (bar_at units p es bytes) (range_with_len 0 (n + 1))
-    ≡ map (bar_at units q es bytes) (range_with_len 0 (n + 1)) =
-    map-range_with_len_more (bar_at units p es bytes) 0 n n (omega arith)
-    ∙ ap (λ (bs : List Bar). bs ++ bar_at units p es bytes n ∷ []) (same_bars units p q es bytes agree n)
-    ∙ ap (λ (b : Bool). map (bar_at units q es bytes) (range_with_len 0 n) ++ bar_with units es bytes n b ∷ [])
+    → (n : ℕ)
+    → map (bar_at units p met es bytes) (range_with_len 0 n) ≡ map (bar_at units q met es bytes) (range_with_len 0 n)
+same_bars units p q met es bytes agree zero = refl
+same_bars units p q met es bytes agree (suc n) =
+    let is_met : Bool = meets_at met (element_at es n).offset in
+    let step : map (bar_at units p met es bytes) (range_with_len 0 (n + 1))
+    ≡ map (bar_at units q met es bytes) (range_with_len 0 (n + 1)) =
+    map-range_with_len_more (bar_at units p met es bytes) 0 n n (omega arith)
+    ∙ ap (λ (bs : List Bar). bs ++ bar_at units p met es bytes n ∷ []) (same_bars units p q met es bytes agree n)
+    ∙ ap (λ (b : Bool).
+    map (bar_at units q met es bytes) (range_with_len 0 n) ++ bar_with units es bytes n b is_met ∷ [])
     (agree n)
-    ∙ sym (map-range_with_len_more (bar_at units q es bytes) 0 n n (omega arith)) in
+    ∙ sym (map-range_with_len_more (bar_at units q met es bytes) 0 n n (omega arith)) in
     rw add-one at step
 
 -- the row of a MAP, where it is known what the entries before it tell
-pub same_row : (scale : Scale) (place : Place) (along : Along) (h : List Entry) (m : FrameMap)
+pub same_row : (scale : Scale) (place : Place) (along : Along) (h : List Entry) (met : List Met) (m : FrameMap)
     → IsWellFormed m.wire → IsAlong scale along h
-    → map_text scale place along.next (λ sid. get_or along.flows sid false) m
-    ≡ map_text scale place (next_start scale h) (is_unsolicited_after h) m
+    → map_text scale place along.next (λ sid. get_or along.flows sid false) met m
+    ≡ map_text scale place (next_start scale h) (is_unsolicited_after h) met m
 unfolding map_text
-same_row scale place along h m whole known =
+same_row scale place along h met m whole known =
     let flows = along.flows in
     let tells = known.flows in
     let es = m.wire.elements in
@@ -75,10 +80,11 @@ same_row scale place along h m whole known =
     λ i. tells (element_at es i).sid (small_sid es i whole.in_range) in
     ap (λ (bs : List Bar). start_text scale.ticks place m.start
     ++ (left_text (left_out scale along.next m.start) ++ (flat_map bar_text bs ++ codes "</g>\n")))
-    (same_bars scale.units (λ sid. get_or flows sid false) (is_unsolicited_after h) es m.bytes agree (front_length es))
+    (same_bars scale.units (λ sid. get_or flows sid false) (is_unsolicited_after h) met es m.bytes agree
+    (front_length es))
     ∙ ap (λ (next : ℕ). start_text scale.ticks place m.start
     ++ (left_text (left_out scale next m.start)
-    ++ (bars_text scale.units (is_unsolicited_after h) es m.bytes ++ codes "</g>\n"))) known.next
+    ++ (bars_text scale.units (is_unsolicited_after h) met es m.bytes ++ codes "</g>\n"))) known.next
 
 -- places with the same numbers are the same
 same_place : (p q : Place) → p.number ≡ q.number → p.row ≡ q.row → p ≡ q
@@ -115,13 +121,14 @@ place-inside span n reached room =
     ∙ ap (λ (b : Bool). if b then Some (record { number = n; row = n - span.from }) else None)
     (lt-ltb (n - span.from) span.count room)
 
-module _ (scale : Scale) (span : Span) (h : List Entry) (fs : List Frame) (along : Along)
-    (known : IsAlong scale along h) where
+module _ (scale : Scale) (met : List Entry → Reply → List Met) (span : Span) (h : List Entry) (fs : List Frame)
+    (along : Along) (known : IsAlong scale along h) where
   abbrev rows : List Frame → List ℕ
-  rows gs = rows_text scale span.from 0 (frames_in span gs)
+  rows gs = rows_text scale met span.from 0 (frames_in span gs)
 
   abbrev by_place : (o : Option Place) (m : FrameMap) → List ℕ
-  by_place o m = entry_text scale o along.next (λ sid. get_or along.flows sid false) (replies.Built m)
+  by_place o m =
+      entry_text scale o along.next (λ sid. get_or along.flows sid false) (met h (replies.Built m)) (replies.Built m)
 
   -- what the next MAP adds
   next_row : (m : FrameMap) → IsWellFormed m.wire
@@ -133,7 +140,7 @@ module _ (scale : Scale) (span : Span) (h : List Entry) (fs : List Frame) (along
       λ is. sym (ap (λ (o : Option Place). rows fs ++ by_place o m) is ∙ append-nil (rows fs)) in
       elim (cases_lt (length fs) span.from) [
         | inl before ↦
-            ap (rows_text scale span.from 0) (frames_in-before span fs f before)
+            ap (rows_text scale met span.from 0) (frames_in-before span fs f before)
             ∙ none (place-before span (length fs) before)
         | inr reached ↦
             elim (cases_lt (length fs - span.from) span.count) [
@@ -147,31 +154,34 @@ module _ (scale : Scale) (span : Span) (h : List Entry) (fs : List Frame) (along
                   } in
                   let here : at ≡ place =
                   same_place at place (omega (arith, size, reached)) (omega (arith, size)) in
-                  ap (rows_text scale span.from 0) (frames_in-more span fs f reached room)
-                  ∙ rows_text-append scale span.from 0 (frames_in span fs) (f ∷ [])
+                  ap (rows_text scale met span.from 0) (frames_in-more span fs f reached room)
+                  ∙ rows_text-append scale met span.from 0 (frames_in span fs) (f ∷ [])
                   ∙ ap (λ (t : List ℕ). rows fs ++ t)
-                  (append-nil (row_text scale at f)
-                  ∙ ap (λ (p : Place). row_text scale p f) here
-                  ∙ sym (same_row scale place along h m whole known)
+                  (append-nil (row_text scale met at f)
+                  ∙ ap (λ (p : Place). row_text scale met p f) here
+                  ∙ sym (same_row scale place along h (met h (replies.Built m)) m whole known)
                   ∙ sym (ap (λ (o : Option Place). by_place o m) (place-inside span (length fs) reached room)))
               | inr past ↦
-                  ap (rows_text scale span.from 0) (frames_in-behind span fs f reached past)
+                  ap (rows_text scale met span.from 0) (frames_in-behind span fs f reached past)
                   ∙ none (place-behind span (length fs) reached past)
             ]
       ]
 
   -- an entry without a MAP has no row
   no_text : (o : Option Place) (reply : Reply) → map_by reply ≡ None
-      → entry_text scale o along.next (λ sid. get_or along.flows sid false) reply ≡ []
+      → entry_text scale o along.next (λ sid. get_or along.flows sid false) (met h reply) reply ≡ []
   unfolding entry_text
   no_text None reply none = refl
   no_text (Some place) reply none =
-      ap (λ (m : Option FrameMap). built_text scale place along.next (λ sid. get_or along.flows sid false) m) none
+      ap (λ (m : Option FrameMap). built_text scale place along.next (λ sid. get_or along.flows sid false)
+      (met h reply) m) none
 
   -- and adds nothing
   still : (reply : Reply) → map_by reply ≡ None
       → rows (fs ++ frame_by h (map_by reply))
-      ≡ rows fs ++ entry_text scale (place_in span (length fs)) along.next (λ sid. get_or along.flows sid false) reply
+      ≡ rows fs
+      ++ entry_text scale (place_in span (length fs)) along.next (λ sid. get_or along.flows sid false) (met h reply)
+      reply
   still reply none =
       ap (λ (o : Option FrameMap). rows (fs ++ frame_by h o)) none ∙ ap rows (append-nil fs)
       ∙ sym (ap (λ (t : List ℕ). rows fs ++ t) (no_text (place_in span (length fs)) reply none) ∙ append-nil (rows fs))
@@ -179,7 +189,9 @@ module _ (scale : Scale) (span : Span) (h : List Entry) (fs : List Frame) (along
   -- what the next entry adds
   next_rows : (reply : Reply) → IsEncodable reply
       → rows (fs ++ frame_by h (map_by reply))
-      ≡ rows fs ++ entry_text scale (place_in span (length fs)) along.next (λ sid. get_or along.flows sid false) reply
+      ≡ rows fs
+      ++ entry_text scale (place_in span (length fs)) along.next (λ sid. get_or along.flows sid false) (met h reply)
+      reply
   next_rows (replies.Built m) whole = next_row m whole
   next_rows (replies.Admitted placement) whole = still (replies.Admitted placement) refl
   next_rows (replies.Changed placement) whole = still (replies.Changed placement) refl
@@ -192,29 +204,32 @@ module _ (scale : Scale) (span : Span) (h : List Entry) (fs : List Frame) (along
   next_rows (replies.Refused refusal) whole = still (replies.Refused refusal) refl
 
 -- the rows of one entry more
-pub rows_more : (a b c : Option (List ℕ)) (scale : Scale) (span : Span) (along : Along) (h longer : List Entry)
-    (e : Entry) → longer ≡ h ++ e ∷ [] → IsEncodable e.reply → IsAlong scale along h
-    → Appends a b (rows_text scale span.from 0 (frames_in span (frames_of h)))
-    → Appends b c (entry_text scale (place_in span along.number) along.next (λ sid. get_or along.flows sid false) e.reply)
-    → Appends a c (rows_text scale span.from 0 (frames_in span (frames_of longer)))
-rows_more a b c scale span along h longer e is whole known before one =
+pub rows_more : (a b c : Option (List ℕ)) (scale : Scale) (met : List Entry → Reply → List Met) (span : Span)
+    (along : Along) (h longer : List Entry) (e : Entry) → longer ≡ h ++ e ∷ [] → IsEncodable e.reply
+    → IsAlong scale along h → Appends a b (rows_text scale met span.from 0 (frames_in span (frames_of h)))
+    → Appends b c (entry_text scale (place_in span along.number) along.next (λ sid. get_or along.flows sid false)
+    (met h e.reply) e.reply)
+    → Appends a c (rows_text scale met span.from 0 (frames_in span (frames_of longer)))
+rows_more a b c scale met span along h longer e is whole known before one =
     let fs = frames_of h in
-    let next = next_rows scale span h fs along known e.reply whole in
-    let all : rows_text scale span.from 0 (frames_in span (frames_of longer))
-    ≡ rows_text scale span.from 0 (frames_in span fs)
-    ++ entry_text scale (place_in span along.number) along.next (λ sid. get_or along.flows sid false) e.reply =
-    ap (λ (gs : List Frame). rows_text scale span.from 0 (frames_in span gs)) (ap frames_of is ∙ frames_of-push h e)
+    let flows : ℕ → Bool = λ sid. get_or along.flows sid false in
+    let next = next_rows scale met span h fs along known e.reply whole in
+    let all : rows_text scale met span.from 0 (frames_in span (frames_of longer))
+    ≡ rows_text scale met span.from 0 (frames_in span fs)
+    ++ entry_text scale (place_in span along.number) along.next flows (met h e.reply) e.reply =
+    ap (λ (gs : List Frame). rows_text scale met span.from 0 (frames_in span gs))
+    (ap frames_of is ∙ frames_of-push h e)
     ∙ next
-    ∙ ap (λ (k : ℕ). rows_text scale span.from 0 (frames_in span fs)
-    ++ entry_text scale (place_in span k) along.next (λ sid. get_or along.flows sid false) e.reply) (sym known.number) in
-    rw all (Appends-trans a b c (rows_text scale span.from 0 (frames_in span fs))
-    (entry_text scale (place_in span along.number) along.next (λ sid. get_or along.flows sid false) e.reply) before one)
+    ∙ ap (λ (k : ℕ). rows_text scale met span.from 0 (frames_in span fs)
+    ++ entry_text scale (place_in span k) along.next flows (met h e.reply) e.reply) (sym known.number) in
+    rw all (Appends-trans a b c (rows_text scale met span.from 0 (frames_in span fs))
+    (entry_text scale (place_in span along.number) along.next flows (met h e.reply) e.reply) before one)
 
 -- behind entries whose frames come before the span nothing is drawn yet
-pub rows_none : (a : Option (List ℕ)) (scale : Scale) (span : Span) (along : Along) (before : List Entry)
-    → IsAlong scale along before → along.number ≤ span.from
-    → Appends a a (rows_text scale span.from 0 (frames_in span (frames_of (before ++ []))))
-rows_none a scale span along before known early =
+pub rows_none : (a : Option (List ℕ)) (scale : Scale) (met : List Entry → Reply → List Met) (span : Span)
+    (along : Along) (before : List Entry) → IsAlong scale along before → along.number ≤ span.from
+    → Appends a a (rows_text scale met span.from 0 (frames_in span (frames_of (before ++ []))))
+rows_none a scale met span along before known early =
     let none : frames_in span (frames_of (before ++ [])) ≡ [] =
     ap (λ (h : List Entry). frames_in span (frames_of h)) (append-nil before)
     ∙ frames_in-early span (frames_of before) (omega (arith, known.number, early)) in

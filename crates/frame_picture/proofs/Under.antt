@@ -4,6 +4,7 @@ use Rattle.std.specs.Prelude.{◌↔◌}
 use Rattle.std.proofs.Math.Nat.{mul-le-mul_left, mul-lt-mul_of_pos_left, le_of_mul-le-mul_left, lt_of_mul-lt-mul_left}
 use Rattle.map_codec.specs.declared.element.Element.{Element}
 use Rattle.map_codec.specs.Element.{element_at}
+use Rattle.map_build.specs.declared.met.Met.{Met}
 use Rattle.map_drawing.specs.Rows.{HasSlot}
 use Rattle.frame_picture.specs.Bar.{bar_at, IsUnder}
 
@@ -27,9 +28,10 @@ module _ (units a b slot : ℕ) (wide : 0 < units) where
       omega (arith, begins, last)
 
 -- a minislot stands under the bar of the allocation that has it, and under no other
-pub under_its_bar : (units : ℕ) → 0 < units → (unsolicited : ℕ → Bool) (es : List Element) (bytes : List ℕ) (i slot : ℕ)
-    → (HasSlot es i slot ↔ IsUnder (bar_at units unsolicited es bytes i) (units * slot))
-under_its_bar units wide unsolicited es bytes i slot =
+pub under_its_bar : (units : ℕ) → 0 < units → (unsolicited : ℕ → Bool) (met : List Met) (es : List Element)
+    → (bytes : List ℕ) (i slot : ℕ)
+    → (HasSlot es i slot ↔ IsUnder (bar_at units unsolicited met es bytes i) (units * slot))
+under_its_bar units wide unsolicited met es bytes i slot =
     let a = (element_at es i).offset in
     let b = (element_at es (i + 1)).offset in (
       λ has. record {

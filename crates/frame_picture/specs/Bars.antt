@@ -8,10 +8,12 @@ use Rattle.map_drawing.specs.declared.usage.ElementUsage.TheVariants.{InitialMai
 use Rattle.map_drawing.specs.declared.usage.ElementUsage.TheVariants.{ShortGrant, LongGrant, Idle, Null}
 use Rattle.map_drawing.specs.declared.usage.ElementUsage.TheVariants.{AdvancedShortGrant, AdvancedLongGrant}
 use Rattle.map_drawing.specs.declared.usage.ElementUsage.TheVariants.{AdvancedUnsolicitedGrant, Reserved}
+use Rattle.map_build.specs.declared.met.Met.{Met}
 use Rattle.map_drawing.specs.Usage.{words_of}
 use Rattle.frame_picture.specs.declared.bar.Bar.{Bar}
 use Rattle.frame_picture.specs.Labelled.{labelled}
 use Rattle.frame_picture.specs.Shade.{shade_of}
+use Rattle.frame_picture.specs.OpenIdle.{is_open_idle}
 use Rattle.frame_picture.specs.Bar.{bars_of}
 
 -- the name of the colour and the pattern of a usage
@@ -31,9 +33,54 @@ usage_look AdvancedLongGrant = codes "long"
 usage_look AdvancedUnsolicitedGrant = codes "unsolicited"
 usage_look Reserved = codes "other"
 
--- the name of the colour and the pattern of a bar
+-- the name of the colour and the pattern of an opportunity that was reserved, by the usage that its element reads like
+unfoldable pub met_look : ElementUsage → List ℕ
+met_look RequestRegion = codes "request"
+met_look Poll = codes "request"
+met_look InitialMaintenance = codes "ranging"
+met_look StationMaintenance = codes "ranging"
+met_look Idle = codes "quiet"
+met_look RequestData = codes "data"
+met_look ShortGrant = codes "data"
+met_look LongGrant = codes "data"
+met_look Null = codes "data"
+met_look DataAcknowledge = codes "data"
+met_look AdvancedShortGrant = codes "data"
+met_look AdvancedLongGrant = codes "data"
+met_look AdvancedUnsolicitedGrant = codes "data"
+met_look Reserved = codes "data"
+
+-- its words
+unfoldable pub met_words : ElementUsage → List ℕ
+met_words RequestRegion = codes "request opportunity"
+met_words Poll = codes "request opportunity"
+met_words InitialMaintenance = codes "initial maintenance"
+met_words StationMaintenance = codes "station maintenance"
+met_words Idle = codes "quiet window"
+met_words RequestData = codes "data opportunity"
+met_words ShortGrant = codes "data opportunity"
+met_words LongGrant = codes "data opportunity"
+met_words Null = codes "data opportunity"
+met_words DataAcknowledge = codes "data opportunity"
+met_words AdvancedShortGrant = codes "data opportunity"
+met_words AdvancedLongGrant = codes "data opportunity"
+met_words AdvancedUnsolicitedGrant = codes "data opportunity"
+met_words Reserved = codes "data opportunity"
+
+-- the name of the colour and the pattern of a bar: what is met there goes before what its element reads like
 unfoldable pub look_of : Bar → List ℕ
-look_of b = if b.unsolicited then codes "unsolicited" else usage_look b.usage
+look_of b =
+    if b.met then met_look b.usage
+    else if b.unsolicited then codes "unsolicited"
+    else if is_open_idle b.allocation then codes "open"
+    else usage_look b.usage
+
+-- the words of a bar: where nothing is met, and all modems may ask behind the request region, it is an idle
+unfoldable pub words_in : Bar → List ℕ
+words_in b =
+    if b.met then met_words b.usage
+    else if is_open_idle b.allocation then codes "open idle"
+    else words_of b.usage
 
 -- what a bar says before the words of its usage
 unfoldable pub origin_of : Bar → List ℕ
@@ -78,7 +125,7 @@ box_text b =
 -- what a bar says of its allocation
 unfoldable pub title_text : Bar → List ℕ
 title_text b =
-    labelled (codes "<title>SID ") b.allocation.sid ++ (codes ", " ++ (origin_of b ++ (words_of b.usage
+    labelled (codes "<title>SID ") b.allocation.sid ++ (codes ", " ++ (origin_of b ++ (words_in b
     ++ (labelled (codes ", offset ") b.allocation.offset ++ (labelled (codes ", length ") b.allocation.length
     ++ (labelled (codes ", bytes requested ") b.bytes ++ codes "</title></rect>\n"))))))
 
@@ -96,6 +143,7 @@ name_text b =
 unfoldable pub bar_text : Bar → List ℕ
 bar_text b = box_text b ++ (title_text b ++ name_text b)
 
--- the bars of a MAP with these elements and byte counts, where these SIDs' flows are unsolicited
-abbrev pub bars_text : ℕ → (ℕ → Bool) → List Element → List ℕ → List ℕ
-bars_text units unsolicited es bytes = flat_map bar_text (bars_of units unsolicited es bytes)
+-- the bars of a MAP with these elements and byte counts, where these SIDs' flows are unsolicited and these opportunities
+-- are met
+abbrev pub bars_text : ℕ → (ℕ → Bool) → List Met → List Element → List ℕ → List ℕ
+bars_text units unsolicited met es bytes = flat_map bar_text (bars_of units unsolicited met es bytes)

@@ -1,11 +1,12 @@
 -- The head of a picture: how its bars look, and what each look is for.
-use Rattle.std.specs.Prelude.{ℕ, List, ◌++◌, codes}
+use Rattle.std.specs.Prelude.{ℕ, Bool, if◌then◌else◌, List, [], ◌++◌, codes}
 use Rattle.frame_picture.specs.declared.layout.Scale.{Scale}
 use Rattle.frame_picture.specs.Labelled.{labelled}
 use Rattle.frame_picture.specs.Time.{ms_text}
 use Rattle.frame_picture.specs.Shade.{shade_rules}
 use Rattle.frame_picture.specs.Layout.{depth_of}
 use Rattle.frame_picture.specs.Patterns.{patterns_text}
+use Rattle.frame_picture.specs.Opportunities.{met_rules, met_patterns, met_keys}
 
 -- how the parts of a picture look
 unfoldable pub style_text : List ℕ
@@ -16,6 +17,14 @@ style_text =
     ++ (codes "stroke-linejoin:round}\n.region{fill:url(#region)}.poll{fill:url(#poll)}.short{fill:url(#short)}"
     ++ (codes ".long{fill:#2f7fc1}\n.unsolicited{fill:url(#unsolicited)}.ranging{fill:url(#ranging)}.idle{fill:#fff}"
     ++ codes ".other{fill:url(#other)}\n.left{font-size:11px}.gap{stroke:#c22;stroke-width:2;stroke-dasharray:6 4}\n"))))
+
+-- a text, where it is shown
+abbrev pub shown_if : Bool → List ℕ → List ℕ
+shown_if shown text = if shown then text else []
+
+-- how open idles look
+abbrev pub open_rule : List ℕ
+open_rule = codes ".open{fill:#d8c9f2}\n"
 
 -- how they look where a reader has a dark screen
 unfoldable pub dark_text : List ℕ
@@ -47,6 +56,10 @@ other_legend =
     ++ (codes "<text class='start' x='-128' y='46'>frame</text><text class='start' x='-8' y='46'>minislot</text>\n"
     ++ codes "<text class='start' x='-8' y='59'>ms</text></g></defs>\n"))))
 
+-- what the look of open idles is for
+abbrev pub open_key : List ℕ
+open_key = codes "<path class='key open' d='M952 8h28v16h-28z'/><text x='988' y='21'>open idle</text>\n"
+
 -- how large a picture of so many rows is
 unfoldable pub size_text : ℕ → List ℕ
 size_text rows =
@@ -62,8 +75,10 @@ counts_text scale rows total =
     ++ (codes " minislots, " ++ (ms_text scale.ticks scale.frame
     ++ codes " ms. The shade of a box goes by its SID. A dashed line: frames left out.</text>\n"))))
 
--- the head of a picture of so many rows, of so many frames in all
+-- the head of a picture of so many rows, of so many frames in all: with open idles where the channel has them
 unfoldable pub head_text : Scale → ℕ → ℕ → List ℕ
 head_text scale rows total =
-    size_text rows ++ (style_text ++ (shade_rules ++ (dark_text ++ (ground_text rows ++ (patterns_text
-    ++ (usual_legend ++ (other_legend ++ counts_text scale rows total)))))))
+    size_text rows ++ (style_text ++ (met_rules ++ (shade_rules ++ (shown_if scale.opens open_rule
+    ++ (dark_text ++ (ground_text rows ++ (patterns_text ++ (met_patterns
+    ++ (usual_legend ++ (met_keys ++ (shown_if scale.opens open_key
+    ++ (other_legend ++ counts_text scale rows total))))))))))))

@@ -1,5 +1,5 @@
 -- Where the parts of a picture stand: an axis with its legend above each 40 rows.
-use Rattle.std.specs.Prelude.{ℕ, ◌+◌, ◌-◌, ◌*◌, ◌/◌, min}
+use Rattle.std.specs.Prelude.{ℕ, ◌+◌, ◌-◌, ◌*◌, ◌/◌, ◌==◌, min}
 use Rattle.minislots.specs.declared.config.Config.{Config}
 use Rattle.frame_picture.specs.declared.layout.Scale.{Scale}
 
@@ -9,7 +9,13 @@ slot_units frame = 1024 / frame
 
 -- the scale of a channel's frames
 abbrev pub scale_of : Config → Scale
-scale_of c = record { start = c.start; frame = c.frame; ticks = c.ticks; units = slot_units c.frame }
+scale_of c = record {
+  start = c.start;
+  frame = c.frame;
+  ticks = c.ticks;
+  units = slot_units c.frame;
+  opens = c.open_idle == 1;
+}
 
 -- how many axes so many rows have: one at least
 abbrev pub axes_of : ℕ → ℕ

@@ -5,10 +5,13 @@ pub mod Layout
 pub mod Frames
 pub mod Turns
 pub mod Along
+pub mod Meeting
 pub mod Part
+pub mod OpenIdle
 pub mod Bar
 pub mod Bars
 pub mod Axis
 pub mod Patterns
+pub mod Opportunities
 pub mod Head
 pub mod Picture

@@ -5,7 +5,10 @@ use Rattle.minislots.specs.declared.config.Config.{Config}
 use Rattle.sched_calls.specs.declared.frame_map.FrameMap.{FrameMap}
 use Rattle.sched_calls.specs.declared.reply.Entry.{Entry}
 use Rattle.sched_calls.specs.declared.reply.Reply.{Reply}
+use Rattle.sched_calls.specs.declared.reply.Reply.TheVariants.{Built}
+use Rattle.map_build.specs.declared.met.Met.{Met}
 use Rattle.sched_history.specs.History.{map_by}
+use Rattle.sched_history.specs.Reserves.{met_after}
 use Rattle.frame_picture.specs.declared.layout.Scale.{Scale}
 use Rattle.frame_picture.specs.declared.span.Span.{Span}
 use Rattle.frame_picture.specs.declared.span.Place.{Place}
@@ -35,39 +38,46 @@ left_text left =
     ++ codes "</text><path class='gap' d='M-72-4H1024'/>\n"
 
 -- the row of a MAP, with the frames that were left out before it where the next one could start there, and with the bar
--- of each of its allocations, where these SIDs' flows are unsolicited
-unfoldable pub map_text : Scale → Place → ℕ → (ℕ → Bool) → FrameMap → List ℕ
-map_text scale place next unsolicited m =
+-- of each of its allocations, where these SIDs' flows are unsolicited and these opportunities are met
+unfoldable pub map_text : Scale → Place → ℕ → (ℕ → Bool) → List Met → FrameMap → List ℕ
+map_text scale place next unsolicited met m =
     start_text scale.ticks place m.start
     ++ (left_text (left_out scale next m.start)
-    ++ (bars_text scale.units unsolicited m.wire.elements m.bytes ++ codes "</g>\n"))
+    ++ (bars_text scale.units unsolicited met m.wire.elements m.bytes ++ codes "</g>\n"))
 
 -- the row of a MAP, if there is one
-abbrev pub built_text : Scale → Place → ℕ → (ℕ → Bool) → Option FrameMap → List ℕ
-built_text scale place next unsolicited None = []
-built_text scale place next unsolicited (Some m) = map_text scale place next unsolicited m
+abbrev pub built_text : Scale → Place → ℕ → (ℕ → Bool) → List Met → Option FrameMap → List ℕ
+built_text scale place next unsolicited met None = []
+built_text scale place next unsolicited met (Some m) = map_text scale place next unsolicited met m
 
 -- the row of the MAP that a reply built, if it did and has a place
-unfoldable pub entry_text : Scale → Option Place → ℕ → (ℕ → Bool) → Reply → List ℕ
-entry_text scale None next unsolicited reply = []
-entry_text scale (Some place) next unsolicited reply = built_text scale place next unsolicited (map_by reply)
+unfoldable pub entry_text : Scale → Option Place → ℕ → (ℕ → Bool) → List Met → Reply → List ℕ
+entry_text scale None next unsolicited met reply = []
+entry_text scale (Some place) next unsolicited met reply = built_text scale place next unsolicited met (map_by reply)
 
--- the row of a frame: an unsolicited flow is one that was so before the MAP
-abbrev pub row_text : Scale → Place → Frame → List ℕ
-row_text scale place f = map_text scale place (next_start scale f.before) (is_unsolicited_after f.before) f.built
+-- the row of a frame: an unsolicited flow is one that was so before the MAP, and an opportunity is met there by what a
+-- reply meets that follows entries
+abbrev pub row_text : Scale → (List Entry → Reply → List Met) → Place → Frame → List ℕ
+row_text scale met place f = map_text scale place (next_start scale f.before) (is_unsolicited_after f.before)
+    (met f.before (Built f.built)) f.built
 
 -- the rows of frames, the first of which has this row, and this number more than that
-abbrev pub rows_text : Scale → ℕ → ℕ → List Frame → List ℕ
-rows_text scale from row [] = []
-rows_text scale from row (f ∷ fs) =
-    row_text scale (record { number = from + row; row = row }) f ++ rows_text scale from (row + 1) fs
+abbrev pub rows_text : Scale → (List Entry → Reply → List Met) → ℕ → ℕ → List Frame → List ℕ
+rows_text scale met from row [] = []
+rows_text scale met from row (f ∷ fs) =
+    row_text scale met (record { number = from + row; row = row }) f ++ rows_text scale met from (row + 1) fs
 
 -- the picture of these frames, of so many, the first of which has this number
-unfoldable pub frames_text : Scale → ℕ → ℕ → List Frame → List ℕ
-frames_text scale total from frames =
+unfoldable pub frames_text : Scale → (List Entry → Reply → List Met) → ℕ → ℕ → List Frame → List ℕ
+frames_text scale met total from frames =
     head_text scale (length frames) total
-    ++ (axes_text scale (length frames) ++ (rows_text scale from 0 frames ++ codes "</svg>\n"))
+    ++ (axes_text scale (length frames) ++ (rows_text scale met from 0 frames ++ codes "</svg>\n"))
 
--- the picture of a history's frames that are drawn
-abbrev pub picture_text : Config → Span → List Entry → List ℕ
-picture_text c span h = frames_text (scale_of c) (length (frames_of h)) span.from (frames_in span (frames_of h))
+-- the picture of a history's frames that are drawn, where a reply that follows entries meets this
+abbrev pub picture_text : Config → (List Entry → Reply → List Met) → Span → List Entry → List ℕ
+picture_text c met span h =
+    frames_text (scale_of c) met (length (frames_of h)) span.from (frames_in span (frames_of h))
+
+-- the picture of a legal history: all its frames go by the plan
+abbrev pub plan_text : Config → Span → List Entry → List ℕ
+plan_text c span h = picture_text c (met_after c) span h

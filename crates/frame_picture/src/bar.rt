@@ -15,6 +15,8 @@ pub struct Bar {
     pub usage: ElementUsage,
     /// Whether it is a grant of an unsolicited flow where the MAP tells no more than that it is a short or a long one.
     pub unsolicited: bool,
+    /// Whether an opportunity that was reserved is met there, whatever the MAP tells.
+    pub met: bool,
     /// Where it begins: so many units from the start of its row.
     pub x: u32,
     /// How many units it is wide.
@@ -32,18 +34,26 @@ fn is_plain_grant(usage: ElementUsage) -> bool
 }
 
 /// The bar of the element at a place before another one, among the elements of a MAP with these byte counts, where the
-/// flow of its SID is unsolicited or not.
-pub fn bar_with(units: u32, elements: &[Element], bytes: &[u32], i: usize, unsolicited: bool) -> Bar
+/// flow of its SID is unsolicited or not, and an opportunity is met or not.
+pub fn bar_with(
+    units: u32,
+    elements: &[Element],
+    bytes: &[u32],
+    i: usize,
+    unsolicited: bool,
+    met: bool,
+) -> Bar
     requires inside { i + 1 < length elements.now }
     requires narrow { units ≤ 1024 }
-    ensures { result ≡ bar_with units elements.now bytes.now i unsolicited }
+    ensures { result ≡ bar_with units elements.now bytes.now i unsolicited met }
 {
     let allocation = allocation_at(elements, i);
     let usage = ElementUsage::of(allocation.sid, allocation.iuc);
     Bar {
         allocation,
         usage,
-        unsolicited: unsolicited && is_plain_grant(usage),
+        unsolicited: !met && unsolicited && is_plain_grant(usage),
+        met,
         x: units * u32::from(allocation.offset),
         width: units * u32::from(allocation.length),
         bytes: bytes.get(i).copied().unwrap_or(0),

@@ -3,10 +3,11 @@
 ghost use Rattle.std.specs.Prelude.{◌≤◌};
 ghost use Rattle.sched_calls.specs.declared.reply.TheConstants.{MAX_ENTRIES};
 ghost use Rattle.frame_picture.specs.Head.{style_text, dark_text, ground_text, usual_legend, other_legend};
-ghost use Rattle.frame_picture.specs.Head.{size_text, counts_text, head_text};
+ghost use Rattle.frame_picture.specs.Head.{size_text, counts_text, shown_if, head_text};
 ghost use Rattle.text_stream.specs.Writing.{Puts};
 
 use crate::layout::{Scale, depth_of};
+use crate::opportunities::{put_met_keys, put_met_patterns, put_met_rules};
 use crate::patterns::put_patterns;
 use crate::shade::put_shade_rules;
 use crate::text::put_labelled;
@@ -43,6 +44,22 @@ fn put_style<W: Sink>(lines: &mut TextBuffer, writer: &mut W) -> Result<(), Text
         writer,
         b".other{fill:url(#other)}\n.left{font-size:11px}.gap{stroke:#c22;stroke-width:2;stroke-dasharray:6 4}\n",
     )
+}
+
+// A text, where it is shown.
+fn put_if<W: Sink>(
+    lines: &mut TextBuffer,
+    writer: &mut W,
+    shown: bool,
+    text: &[u8],
+) -> Result<(), TextFault>
+    ensures { Puts W.contents W.has_failed writer.old writer.new lines.old lines.new
+        (shown_if shown text.now) result }
+{
+    if !shown {
+        return Ok(());
+    }
+    lines.put(writer, text)
 }
 
 // How they look where a reader has a dark screen. These rules stand behind those that they change.
@@ -176,7 +193,7 @@ fn put_counts<W: Sink>(
     )
 }
 
-// The head of a picture of so many rows, of so many frames in all.
+// The head of a picture of so many rows, of so many frames in all: with open idles where the channel has them.
 #[tactic(auto, unfolding(crate::specs::Head::head_text))]
 pub(crate) fn put_head<W: Sink>(
     lines: &mut TextBuffer,
@@ -191,11 +208,21 @@ pub(crate) fn put_head<W: Sink>(
 {
     put_size(lines, writer, rows)?;
     put_style(lines, writer)?;
+    put_met_rules(lines, writer)?;
     put_shade_rules(lines, writer)?;
+    put_if(lines, writer, scale.opens, b".open{fill:#d8c9f2}\n")?;
     put_dark(lines, writer)?;
     put_ground(lines, writer, rows)?;
     put_patterns(lines, writer)?;
+    put_met_patterns(lines, writer)?;
     put_usual_legend(lines, writer)?;
+    put_met_keys(lines, writer)?;
+    put_if(
+        lines,
+        writer,
+        scale.opens,
+        b"<path class='key open' d='M952 8h28v16h-28z'/><text x='988' y='21'>open idle</text>\n",
+    )?;
     put_other_legend(lines, writer)?;
     put_counts(lines, writer, scale, rows, total)
 }

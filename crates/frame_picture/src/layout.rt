@@ -17,6 +17,8 @@ pub struct Scale {
     pub ticks: u32,
     /// How many units a minislot is wide.
     pub units: u32,
+    /// Whether idles are open to requests.
+    pub opens: bool,
 }
 
 /// How many units a minislot is wide, where a frame has so many: as many as fit 1024 times over all of them.
@@ -41,6 +43,7 @@ pub(crate) fn scale_of(config: &Checked) -> Scale
         frame,
         ticks: config.ticks(),
         units: slot_units(frame),
+        opens: config.open_idle() == 1,
     }
 }
 

@@ -2,7 +2,8 @@
 //!
 //! Each allocation of each MAP that is drawn has one bar, in the row of its MAP, from its offset on and as wide as its
 //! length. A bar is the picture's only kind of `rect`. What a bar is for is told by its colour, by its pattern and in
-//! its title, and whose it is by its shade. All places are whole.
+//! its title, and whose it is by its shade. Where the plan meets an opportunity that was reserved it is that, whatever
+//! the words of its element. All places are whole.
 #![tactic(auto)]
 
 mod along;
@@ -12,6 +13,9 @@ mod flows;
 mod head;
 mod layout;
 mod left;
+mod meeting;
+mod open_idle;
+mod opportunities;
 mod part;
 mod patterns;
 mod picture;
@@ -25,6 +29,8 @@ mod usage;
 pub use bar::{Bar, bar_with, every_bar};
 pub use flows::{Flows, no_flows, note};
 pub use layout::{Scale, slot_units};
+pub use meeting::met_by_entries;
+pub use open_idle::is_open_idle;
 pub use part::Part;
 pub use picture::{put_part, put_picture};
 pub use shade::{every_shade, shade_of};

@@ -17,10 +17,11 @@ use crate::shade::shade_of;
 use crate::span::Place;
 use crate::text::put_labelled;
 use crate::time::put_ms;
-use crate::usage::{is_named, look_of, name_width, origin_of};
+use crate::usage::{is_named, look_of, name_width, origin_of, words_in};
 use map_build::FrameMap;
 use map_codec::Element;
 use map_drawing::front_len;
+use sched_history::{Met, meets_at};
 use text_stream::{Sink, TextBuffer, TextFault};
 
 // The name of a bar's shade.
@@ -60,7 +61,7 @@ fn put_title<W: Sink>(lines: &mut TextBuffer, writer: &mut W, bar: Bar) -> Resul
     put_labelled(lines, writer, b"<title>SID ", u64::from(allocation.sid))?;
     lines.put(writer, b", ")?;
     lines.put(writer, origin_of(bar))?;
-    lines.put(writer, bar.usage.words())?;
+    lines.put(writer, words_in(bar))?;
     put_labelled(lines, writer, b", offset ", u64::from(allocation.offset))?;
     put_labelled(lines, writer, b", length ", u64::from(allocation.length))?;
     put_labelled(lines, writer, b", bytes requested ", u64::from(bar.bytes))?;
@@ -98,23 +99,26 @@ fn put_bar<W: Sink>(lines: &mut TextBuffer, writer: &mut W, bar: Bar) -> Result<
     put_name(lines, writer, bar)
 }
 
-// The bars of a MAP with these elements and byte counts, where these flows are unsolicited.
+// The bars of a MAP with these elements and byte counts, where these flows are unsolicited and these opportunities are
+// met.
 fn put_bars<W: Sink>(
     lines: &mut TextBuffer,
     writer: &mut W,
     units: u32,
     flows: &Flows,
+    met: &[Met],
     elements: &[Element],
     bytes: &[u32],
 ) -> Result<(), TextFault>
     requires one { nulls elements.now ≡ 1 }
     requires narrow { units ≤ 1024 }
     ensures { Puts W.contents W.has_failed writer.old writer.new lines.old lines.new
-        (bars_text units (λ sid. get_or flows.now sid false) elements.now bytes.now) result }
+        (bars_text units (λ sid. get_or flows.now sid false) met.now elements.now bytes.now) result }
 {
     for i in 0..front_len(elements) {
         let unsolicited = flows[usize::from(elements[i].sid)];
-        let bar = bar_with(units, elements, bytes, i, unsolicited);
+        let is_met = meets_at(met, elements[i].offset);
+        let bar = bar_with(units, elements, bytes, i, unsolicited, is_met);
         put_bar(lines, writer, bar)?;
     }
     Ok(())
@@ -145,7 +149,7 @@ fn put_start<W: Sink>(
     lines.put(writer, b" ms</text>\n")
 }
 
-// The row of a MAP, behind what the entries before it tell.
+// The row of a MAP that meets these opportunities, behind what the entries before it tell.
 #[tactic(auto, unfolding(crate::specs::Picture::map_text))]
 pub(crate) fn put_row<W: Sink>(
     lines: &mut TextBuffer,
@@ -153,6 +157,7 @@ pub(crate) fn put_row<W: Sink>(
     scale: Scale,
     place: Place,
     along: &Along,
+    met: &[Met],
     map: &FrameMap,
 ) -> Result<(), TextFault>
     requires few { place.row ≤ MAX_ENTRIES }
@@ -160,12 +165,21 @@ pub(crate) fn put_row<W: Sink>(
     requires some { 0 < scale.frame }
     requires whole { IsWellFormed map.now.wire }
     ensures { Puts W.contents W.has_failed writer.old writer.new lines.old lines.new
-        (map_text scale place along.now.next (λ sid. get_or along.now.flows sid false) map.now) result }
+        (map_text scale place along.now.next (λ sid. get_or along.now.flows sid false) met.now map.now)
+        result }
 {
     put_start(lines, writer, scale.ticks, place, map.start)?;
     put_left(lines, writer, left_out(scale, along.next, map.start))?;
     let elements = map.wire.elements.as_slice();
     let bytes = map.bytes.as_slice();
-    put_bars(lines, writer, scale.units, &along.flows, elements, bytes)?;
+    put_bars(
+        lines,
+        writer,
+        scale.units,
+        &along.flows,
+        met,
+        elements,
+        bytes,
+    )?;
     lines.put(writer, b"</g>\n")
 }

@@ -1,9 +1,11 @@
 //! How a bar looks.
 
 ghost use Rattle.std.specs.Prelude.{◌≡◌};
-ghost use Rattle.frame_picture.specs.Bars.{usage_look, look_of, origin_of, is_named, name_width};
+ghost use Rattle.frame_picture.specs.Bars.{usage_look, met_look, met_words, look_of, words_in, origin_of};
+ghost use Rattle.frame_picture.specs.Bars.{is_named, name_width};
 
 use crate::bar::Bar;
+use crate::open_idle::is_open_idle;
 use map_drawing::ElementUsage;
 
 // The name of the colour and the pattern of a usage.
@@ -26,15 +28,60 @@ fn usage_look(usage: ElementUsage) -> &'static [u8]
     }
 }
 
+// The name of the colour and the pattern of an opportunity that was reserved, by the usage that its element reads like.
+#[tactic(auto, unfolding(crate::specs::Bars::met_look))]
+fn met_look(usage: ElementUsage) -> &'static [u8]
+    ensures { result.now ≡ met_look usage }
+{
+    match usage {
+        ElementUsage::RequestRegion | ElementUsage::Poll => b"request",
+        ElementUsage::StationMaintenance | ElementUsage::InitialMaintenance => b"ranging",
+        ElementUsage::Idle => b"quiet",
+        _ => b"data",
+    }
+}
+
+// The words of an opportunity that was reserved.
+#[tactic(auto, unfolding(crate::specs::Bars::met_words))]
+fn met_words(usage: ElementUsage) -> &'static [u8]
+    ensures { result.now ≡ met_words usage }
+{
+    match usage {
+        ElementUsage::RequestRegion | ElementUsage::Poll => b"request opportunity",
+        ElementUsage::InitialMaintenance => b"initial maintenance",
+        ElementUsage::StationMaintenance => b"station maintenance",
+        ElementUsage::Idle => b"quiet window",
+        _ => b"data opportunity",
+    }
+}
+
 // The name of the colour and the pattern of a bar.
 #[tactic(auto, unfolding(crate::specs::Bars::look_of))]
 pub(crate) fn look_of(bar: Bar) -> &'static [u8]
     ensures { result.now ≡ look_of bar }
 {
-    if bar.unsolicited {
+    if bar.met {
+        met_look(bar.usage)
+    } else if bar.unsolicited {
         b"unsolicited"
+    } else if is_open_idle(bar.allocation) {
+        b"open"
     } else {
         usage_look(bar.usage)
+    }
+}
+
+// The words of a bar.
+#[tactic(auto, unfolding(crate::specs::Bars::words_in))]
+pub(crate) fn words_in(bar: Bar) -> &'static [u8]
+    ensures { result.now ≡ words_in bar }
+{
+    if bar.met {
+        met_words(bar.usage)
+    } else if is_open_idle(bar.allocation) {
+        b"open idle"
+    } else {
+        bar.usage.words()
     }
 }
 

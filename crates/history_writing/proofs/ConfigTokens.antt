@@ -20,20 +20,38 @@ tokens_in ms = members_tokens (members_outline ms)
 -- those of the fields before the overhead, and behind them
 front : (c : Config) (behind : Members) → tokens_in (front_members c behind) ≡ front_tokens c ++ tokens_in behind
 front c behind = elim (cases_Bool (c.flows == 64)) [
-  | inl same ↦ rw same refl
-  | inr other ↦ rw other refl
+  | inl a ↦ elim (cases_Bool (c.open_idle == 0)) [
+    | inl b ↦ rw (a, b) refl
+    | inr b ↦ rw (a, b) refl
+  ]
+  | inr a ↦ elim (cases_Bool (c.open_idle == 0)) [
+    | inl b ↦ rw (a, b) refl
+    | inr b ↦ rw (a, b) refl
+  ]
 ]
 
 -- those of the fields behind the overhead
 back : (c : Config) → tokens_in (back_members c) ≡ back_tokens c ++ Token.end_object ∷ []
 back c = elim (cases_Bool (c.pending == 64)) [
   | inl a ↦ elim (cases_Bool (c.periodic == 40)) [
-    | inl b ↦ rw (a, b) refl
-    | inr b ↦ rw (a, b) refl
+    | inl b ↦ elim (cases_Bool (c.settle == 0)) [
+      | inl d ↦ rw (a, b, d) refl
+      | inr d ↦ rw (a, b, d) refl
+    ]
+    | inr b ↦ elim (cases_Bool (c.settle == 0)) [
+      | inl d ↦ rw (a, b, d) refl
+      | inr d ↦ rw (a, b, d) refl
+    ]
   ]
   | inr a ↦ elim (cases_Bool (c.periodic == 40)) [
-    | inl b ↦ rw (a, b) refl
-    | inr b ↦ rw (a, b) refl
+    | inl b ↦ elim (cases_Bool (c.settle == 0)) [
+      | inl d ↦ rw (a, b, d) refl
+      | inr d ↦ rw (a, b, d) refl
+    ]
+    | inr b ↦ elim (cases_Bool (c.settle == 0)) [
+      | inl d ↦ rw (a, b, d) refl
+      | inr d ↦ rw (a, b, d) refl
+    ]
   ]
 ]
 

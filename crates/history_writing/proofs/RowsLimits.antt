@@ -1,4 +1,5 @@
--- Worked texts: openings of journals with limits of flows, pending grants and periodic grants.
+-- Worked texts: openings of journals with limits of flows, pending grants and periodic grants, and with open idles and
+-- settling.
 use Rattle.std.proofs.Common.{◌≡◌, List, ℕ, ◌++◌, codes, refl}
 use Rattle.std.specs.Fmt.{digits}
 use Rattle.serde_json.proofs.OnLiterals.{serde_json_on_literals}
@@ -40,3 +41,30 @@ no_periodic_grants = refl
 as_many_periodic_grants_as_flows : opening_line (limited 64 64 64) ≡ text (codes "") (codes "\"periodic\":64,")
 unfolding opening_line opening_data config_data digits serde_json_on_literals
 as_many_periodic_grants_as_flows = refl
+
+-- a channel whose idles are open, or not, and that settles for so long
+abbrev idling : ℕ → ℕ → Config
+idling open_idle settle = record base { open_idle = open_idle; settle = settle }
+
+-- the text of its opening, with these members before the overhead and before the longest short grant
+abbrev idling_text : List ℕ → List ℕ → List ℕ
+idling_text open_idle settle =
+    codes "{\"config\":{\"bytes_per_slot\":16,\"calls\":1000,\"channel\":3,\"cycle\":20,\"data_end\":0," ++ (
+    codes "\"data_start\":0,\"frame\":40,\"grant_cap\":2000,\"lead\":40," ++ (open_idle ++ (
+    codes "\"overhead\":2,\"phy\":0,\"poll_slots\":2,\"quantum\":64,\"ranging_end\":0," ++ (
+    codes "\"ranging_start\":0,\"receivers\":1,\"req_slots\":4," ++ (settle ++
+    codes "\"short_max\":8,\"start\":800,\"ticks\":4,\"ucd_count\":1}}\n")))))
+
+-- idles that are open to nobody, and settling for no time, are those of missing members
+no_idles : opening_line (idling 0 0) ≡ idling_text (codes "") (codes "")
+unfolding opening_line opening_data config_data digits serde_json_on_literals
+no_idles = refl
+
+open_and_settling : opening_line (idling 1 4096) ≡ idling_text (codes "\"open_idle\":1,") (codes "\"settle\":4096,")
+unfolding opening_line opening_data config_data digits serde_json_on_literals
+open_and_settling = refl
+
+-- either stands without the other
+settling_alone : opening_line (idling 0 1) ≡ idling_text (codes "") (codes "\"settle\":1,")
+unfolding opening_line opening_data config_data digits serde_json_on_literals
+settling_alone = refl

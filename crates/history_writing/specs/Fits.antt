@@ -12,7 +12,8 @@ use Rattle.sched_calls.specs.declared.spec.FlowSpec.{FlowSpec}
 use Rattle.sched_calls.specs.declared.spec.FlowSpec.TheVariants.{Unsolicited, Polled, BestEffort}
 use Rattle.sched_calls.specs.declared.placement.Placement.{Placement}
 use Rattle.sched_calls.specs.declared.frame_map.FrameMap.{FrameMap}
-use Rattle.sched_calls.specs.declared.opportunity.Usage.TheVariants.{Initial, Station}
+use Rattle.sched_calls.specs.declared.opportunity.Usage.TheVariants.{Initial, InitialTo, Station}
+use Rattle.sched_calls.specs.declared.opportunity.Usage.TheVariants.{Request, Quiet, DataTo}
 use Rattle.sched_calls.specs.declared.call.Call.{Call}
 use Rattle.sched_calls.specs.declared.call.Call.TheVariants.{Admit, Remove, Ask, Heard, Build, Skip, Status}
 use Rattle.sched_calls.specs.declared.call.Call.TheVariants.{Reserve, Header, Replace, Change, Rest, Wake}
@@ -45,7 +46,11 @@ CallFits (Build now) = now < 2 ^ 64
 CallFits (Skip now) = now < 2 ^ 64
 CallFits (Status sid) = sid < 2 ^ 16
 CallFits (Reserve Initial slots) = slots < 2 ^ 32
+CallFits (Reserve (InitialTo sid) slots) = (sid < 2 ^ 16) × (slots < 2 ^ 32)
 CallFits (Reserve (Station sid) slots) = (sid < 2 ^ 16) × (slots < 2 ^ 32)
+CallFits (Reserve (Request sid) slots) = (sid < 2 ^ 16) × (slots < 2 ^ 32)
+CallFits (Reserve Quiet slots) = slots < 2 ^ 32
+CallFits (Reserve (DataTo sid) slots) = (sid < 2 ^ 16) × (slots < 2 ^ 32)
 CallFits (Header header) = (header.ucd_count < 2 ^ 8) × (header.ranging_start < 2 ^ 8)
     × (header.ranging_end < 2 ^ 8) × (header.data_start < 2 ^ 8) × (header.data_end < 2 ^ 8)
 CallFits (Replace receiver sid amount heard) =
@@ -94,6 +99,8 @@ pub record ConfigFits (c : Config) : Type 0 where
   pub flows : c.flows < 2 ^ 32
   pub pending : c.pending < 2 ^ 32
   pub periodic : c.periodic < 2 ^ 32
+  pub open_idle : c.open_idle < 2 ^ 8
+  pub settle : c.settle < 2 ^ 32
 
 -- the numbers of a placement fit their types, where there is one
 abbrev pub PlacementFits : Option Placement → Type 0

@@ -46,7 +46,7 @@ front_members c behind =
     member (codes "data_end") (count c.data_end) (member (codes "data_start") (count c.data_start) (
     optional_member 64 (codes "flows") c.flows (
     member (codes "frame") (count c.frame) (member (codes "grant_cap") (count c.grant_cap) (
-    member (codes "lead") (count c.lead) behind))))))))
+    member (codes "lead") (count c.lead) (optional_member 0 (codes "open_idle") c.open_idle behind)))))))))
 
 -- the fields behind the overhead
 abbrev pub back_members : Config → Members
@@ -56,8 +56,9 @@ back_members c =
     member (codes "quantum") (count c.quantum) (
     member (codes "ranging_end") (count c.ranging_end) (member (codes "ranging_start") (count c.ranging_start) (
     member (codes "receivers") (count c.receivers) (member (codes "req_slots") (count c.req_slots) (
+    optional_member 0 (codes "settle") c.settle (
     member (codes "short_max") (count c.short_max) (member (codes "start") (count c.start) (
-    member (codes "ticks") (count c.ticks) (member (codes "ucd_count") (count c.ucd_count) no_members))))))))))))
+    member (codes "ticks") (count c.ticks) (member (codes "ucd_count") (count c.ucd_count) no_members)))))))))))))
 
 -- a configuration with these bursts
 abbrev pub members_with : Config → Bursts → Members
@@ -65,7 +66,7 @@ members_with c (Uniform bytes_per_slot overhead) = member (codes "bytes_per_slot
     (front_members c (member (codes "overhead") (count overhead) (back_members c)))
 members_with c (Described d) = member (codes "bursts") (descriptors_data d) (front_members c (back_members c))
 
--- a configuration: a member for each field, but for a limit that is the one of a missing member
+-- a configuration: a member for each field, but for one that may be missing and is then the same
 unfoldable pub config_data : Config → Data
 config_data c = object (members_with c c.bursts)
 

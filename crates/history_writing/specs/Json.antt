@@ -11,7 +11,8 @@ use Rattle.sched_calls.specs.declared.spec.FlowSpec.{FlowSpec}
 use Rattle.sched_calls.specs.declared.spec.FlowSpec.TheVariants.{Unsolicited, Polled, BestEffort}
 use Rattle.sched_calls.specs.declared.placement.Placement.{Placement}
 use Rattle.sched_calls.specs.declared.frame_map.FrameMap.{FrameMap}
-use Rattle.sched_calls.specs.declared.opportunity.Usage.TheVariants.{Initial, Station}
+use Rattle.sched_calls.specs.declared.opportunity.Usage.TheVariants.{Initial, InitialTo, Station}
+use Rattle.sched_calls.specs.declared.opportunity.Usage.TheVariants.{Request, Quiet, DataTo}
 use Rattle.sched_calls.specs.declared.call.Call.{Call}
 use Rattle.sched_calls.specs.declared.call.Call.TheVariants.{Admit, Remove, Ask, Heard, Build, Skip, Status}
 use Rattle.sched_calls.specs.declared.call.Call.TheVariants.{Reserve, Header, Replace, Change, Rest, Wake}
@@ -59,6 +60,18 @@ parameters_data name sid spec = object (
     member (codes "call") (string name) (member (codes "flow") (flow_data spec) (
     member (codes "sid") (count sid) no_members)))
 
+-- a Reserve of this usage that no SID stands beside
+abbrev pub reserve_for : List ℕ → ℕ → Data
+reserve_for usage slots = object (
+    member (codes "call") (string (codes "reserve")) (member (codes "slots") (count slots) (
+    member (codes "usage") (string usage) no_members)))
+
+-- a Reserve of this usage with its SID
+abbrev pub reserve_to : List ℕ → ℕ → ℕ → Data
+reserve_to usage sid slots = object (
+    member (codes "call") (string (codes "reserve")) (member (codes "sid") (count sid) (
+    member (codes "slots") (count slots) (member (codes "usage") (string usage) no_members))))
+
 -- a call, by its name
 unfoldable pub call_data : Call → Data
 call_data (Admit sid spec) = parameters_data (codes "admit") sid spec
@@ -74,12 +87,12 @@ call_data (Skip now) = object (member (codes "call") (string (codes "skip"))
     (member (codes "now") (count now) no_members))
 call_data (Status sid) = object (member (codes "call") (string (codes "status"))
     (member (codes "sid") (count sid) no_members))
-call_data (Reserve Initial slots) = object (
-    member (codes "call") (string (codes "reserve")) (member (codes "slots") (count slots) (
-    member (codes "usage") (string (codes "initial")) no_members)))
-call_data (Reserve (Station sid) slots) = object (
-    member (codes "call") (string (codes "reserve")) (member (codes "sid") (count sid) (
-    member (codes "slots") (count slots) (member (codes "usage") (string (codes "station")) no_members))))
+call_data (Reserve Initial slots) = reserve_for (codes "initial") slots
+call_data (Reserve (InitialTo sid) slots) = reserve_to (codes "initial_to") sid slots
+call_data (Reserve (Station sid) slots) = reserve_to (codes "station") sid slots
+call_data (Reserve (Request sid) slots) = reserve_to (codes "request") sid slots
+call_data (Reserve Quiet slots) = reserve_for (codes "quiet") slots
+call_data (Reserve (DataTo sid) slots) = reserve_to (codes "data") sid slots
 call_data (Header header) = object (
     member (codes "call") (string (codes "header")) (member (codes "data_end") (count header.data_end) (
     member (codes "data_start") (count header.data_start) (

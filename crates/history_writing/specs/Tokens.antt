@@ -47,7 +47,7 @@ front_tokens c = joined (
     numbered (codes "calls") c.calls ∷ numbered (codes "channel") c.channel ∷ numbered (codes "cycle") c.cycle
     ∷ numbered (codes "data_end") c.data_end ∷ numbered (codes "data_start") c.data_start
     ∷ optional_tokens 64 (codes "flows") c.flows ∷ numbered (codes "frame") c.frame ∷ numbered (codes "grant_cap") c.grant_cap
-    ∷ numbered (codes "lead") c.lead ∷ [])
+    ∷ numbered (codes "lead") c.lead ∷ optional_tokens 0 (codes "open_idle") c.open_idle ∷ [])
 
 -- the fields behind the overhead
 abbrev pub back_tokens : Config → List Token
@@ -56,5 +56,5 @@ back_tokens c = joined (
     ∷ numbered (codes "phy") c.phy ∷ numbered (codes "poll_slots") c.poll_slots ∷ numbered (codes "quantum") c.quantum
     ∷ numbered (codes "ranging_end") c.ranging_end ∷ numbered (codes "ranging_start") c.ranging_start
     ∷ numbered (codes "receivers") c.receivers ∷ numbered (codes "req_slots") c.req_slots
-    ∷ numbered (codes "short_max") c.short_max ∷ numbered (codes "start") c.start
-    ∷ numbered (codes "ticks") c.ticks ∷ numbered (codes "ucd_count") c.ucd_count ∷ [])
+    ∷ optional_tokens 0 (codes "settle") c.settle ∷ numbered (codes "short_max") c.short_max
+    ∷ numbered (codes "start") c.start ∷ numbered (codes "ticks") c.ticks ∷ numbered (codes "ucd_count") c.ucd_count ∷ [])

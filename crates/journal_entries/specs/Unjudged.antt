@@ -2,6 +2,7 @@
 use Rattle.std.specs.Prelude.{ℕ, ◌+◌, List, [], ◌∷◌, ◌++◌, length, Option}
 use Rattle.minislots.specs.declared.config.Config.{Config}
 use Rattle.sched_calls.specs.declared.reply.Entry.{Entry}
+use Rattle.sched_calls.specs.Reply.{IsEncodable}
 use Rattle.text_stream.specs.Told.{untold}
 use Rattle.journal_entries.specs.declared.unjudged.UnjudgedEntries.{UnjudgedEntries}
 use Rattle.journal_entries.specs.declared.unjudged.Read.{Read}
@@ -28,3 +29,9 @@ abbrev pub IsRead : Option (List ℕ) → Option (List ℕ) → UnjudgedEntries 
 IsRead before remaining new c es (read.Entry e) = StandWith before (untold new.lines remaining) remaining c es e
 IsRead before remaining new c es read.NoEntry = FindsNoEntryIn before remaining c es (length es + 1)
 IsRead before remaining new c es (read.End torn) = FindsLegal before remaining c es torn
+
+-- the MAP of an entry that is read has bytes
+abbrev pub ReadsBytes : Read → Type 0
+ReadsBytes (read.Entry e) = IsEncodable e.reply
+ReadsBytes read.NoEntry = Unit {0}
+ReadsBytes (read.End torn) = Unit {0}

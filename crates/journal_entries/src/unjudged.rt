@@ -5,7 +5,7 @@ ghost use Rattle.minislots.specs.declared.config.Config.{Config as Configuration
 ghost use Rattle.sched_calls.specs.declared.reply.Entry.{Entry as Recorded};
 ghost use Rattle.text_stream.specs.Watched.{FailsBy};
 ghost use Rattle.journal_entries.specs.Journal.{HasNoOpening, StopsJournal};
-ghost use Rattle.journal_entries.specs.Unjudged.{HasRead, IsRead};
+ghost use Rattle.journal_entries.specs.Unjudged.{HasRead, IsRead, ReadsBytes};
 
 use crate::entries::read_opening;
 use history_reading::entry_in;
@@ -64,6 +64,7 @@ impl UnjudgedEntries {
             (before : Option (List ℕ)) (c : Configuration) (es : List Recorded) →
             HasRead before (R.remaining reader.old) self.old c es →
             IsRead before (R.remaining reader.new) self.new c es read) }
+        ensures encodable { IfOk result ReadsBytes }
 
         // A failed read is told where one has failed, and a journal is too long only where a line has more bytes than
         // 64 bits can count.

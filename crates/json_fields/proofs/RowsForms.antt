@@ -7,7 +7,7 @@ use Rattle.json_fields.specs.declared.forms.Sort.{Sort}
 use Rattle.json_fields.specs.declared.forms.TheConstants.{CONFIGS, BURSTS, PROFILES}
 use Rattle.json_fields.specs.Fields.{config_of, slots_of, sizes_of, counts_of, windows_of, u8_or, u8_at, u16_at, u32_at}
 use Rattle.json_fields.specs.Fields.{u64_at, number_at, profile_of, profile_at, descriptors_of, uniform_of, bursts_of}
-use Rattle.json_fields.specs.Fields.{limits_of, u32_or}
+use Rattle.json_fields.specs.Fields.{limits_of, idles_of, u32_or}
 use Rattle.json_fields.proofs.FormRows.{taken, least, worked_on, takes_forms, have_bounds}
 
 -- a descriptor, and descriptors, with all members
@@ -28,7 +28,7 @@ descriptors = refl
 -- with burst descriptors nobody reads the bytes of a minislot and the overhead, without them both are there
 configurations : takes_forms (λ d. is_some (config_of d)) bursts CONFIGS ≡ true
 unfolding config_of slots_of bursts_of uniform_of descriptors_of profile_at profile_of sizes_of counts_of windows_of
-    limits_of u8_or u32_or u8_at u16_at u32_at u64_at number_at
+    limits_of idles_of u8_or u32_or u8_at u16_at u32_at u64_at number_at
 configurations = refl
 
 -- whether what is read is lawful

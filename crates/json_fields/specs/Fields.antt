@@ -110,6 +110,13 @@ limits_of d = do
   periodic ← u32_or 40 (codes "periodic") d
   Some (flows, pending, periodic)
 
+-- whether idles are open to requests, and the minislots for which a new UCD settles: 0 where they are missing
+unfoldable pub idles_of : Data → Option (ℕ × ℕ)
+idles_of d = do
+  open_idle ← u8_or 0 (codes "open_idle") d
+  settle ← u32_or 0 (codes "settle") d
+  Some (open_idle, settle)
+
 -- the burst descriptor that an object stands for
 unfoldable pub profile_of : Data → Option Profile
 profile_of d = do
@@ -168,7 +175,7 @@ unfoldable pub bursts_of : Data → Option Bursts
 bursts_of d = or_uniform (get (codes "bursts") d) d
 
 -- the configuration that an object stands for: it has every field but that of the physical layer, which is 0 where it
--- is missing, and those of `limits_of`, and either of the two forms of its bursts
+-- is missing, and those of `limits_of` and `idles_of`, and either of the two forms of its bursts
 unfoldable pub config_of : Data → Option Config
 config_of d = do
   slots ← slots_of d
@@ -179,6 +186,7 @@ config_of d = do
   backoff ← windows_of (codes "data_start") (codes "data_end") d
   phy ← u8_or 0 (codes "phy") d
   limits ← limits_of d
+  idles ← idles_of d
   Some (record {
     ticks = slots.0;
     bursts = bursts;
@@ -203,4 +211,6 @@ config_of d = do
     flows = limits.0;
     pending = limits.1;
     periodic = limits.2;
+    open_idle = idles.0;
+    settle = idles.1;
   })

@@ -2,7 +2,8 @@
 
 ghost use Rattle.std.specs.Prelude.{◌≡◌, codes, option_and_then};
 ghost use Rattle.serde_json.specs.Find.{get};
-ghost use Rattle.json_fields.specs.Fields.{slots_of, sizes_of, counts_of, windows_of, limits_of, config_of};
+ghost use Rattle.json_fields.specs.Fields.{slots_of, sizes_of, counts_of, windows_of, limits_of, idles_of};
+ghost use Rattle.json_fields.specs.Fields.{config_of};
 
 use super::bursts::bursts_of;
 use super::field::{member, number_u8, number_u8_or, number_u32, number_u32_or, number_u64};
@@ -86,9 +87,21 @@ fn limits_of<T: Tree>(value: &T) -> Option<(u32, u32, u32)>
     ))
 }
 
+// Whether idles are open to requests, and the minislots for which a new UCD settles.
+#[tactic(auto, unfolding(crate::specs::Fields::idles_of))]
+fn idles_of<T: Tree>(value: &T) -> Option<(u8, u32)>
+    ensures { result ≡ idles_of (T.shown value.now) }
+{
+    Some((
+        number_u8_or(value, "open_idle", 0)?,
+        number_u32_or(value, "settle", 0)?,
+    ))
+}
+
 /// The configuration that an object stands for: each field is there, and fits its type. The physical layer is 0 where
-/// it is missing, and there are at most 64 flows, 64 pending grants and 40 periodic grants where those are. Where there
-/// are burst descriptors, nobody reads the bytes of a minislot and the overhead.
+/// it is missing, there are at most 64 flows, 64 pending grants and 40 periodic grants where those are, and idles are
+/// not open, and nothing settles, where those are. Where there are burst descriptors, nobody reads the bytes of a
+/// minislot and the overhead.
 #[tactic(auto, unfolding(crate::specs::Fields::config_of))]
 pub fn config_of<T: Tree>(value: &T) -> Option<Config>
     ensures { result ≡ config_of (T.shown value.now) }
@@ -101,6 +114,7 @@ pub fn config_of<T: Tree>(value: &T) -> Option<Config>
     let (data_start, data_end) = windows_of(value, "data_start", "data_end")?;
     let phy = number_u8_or(value, "phy", 0)?;
     let (flows, pending, periodic) = limits_of(value)?;
+    let (open_idle, settle) = idles_of(value)?;
     Some(Config {
         ticks,
         bursts,
@@ -125,6 +139,8 @@ pub fn config_of<T: Tree>(value: &T) -> Option<Config>
         flows,
         pending,
         periodic,
+        open_idle,
+        settle,
     })
 }
 

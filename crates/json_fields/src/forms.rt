@@ -150,6 +150,8 @@ pub static CONFIGS: [Form; 1] = [(
         ("flows", U32, Missing::Number(64)),
         ("pending", U32, Missing::Number(64)),
         ("periodic", U32, Missing::Number(40)),
+        ("open_idle", U8, Missing::Number(0)),
+        ("settle", U32, Missing::Number(0)),
         ("channel", U8, MUST),
         ("ucd_count", U8, MUST),
     ],
@@ -206,10 +208,10 @@ const NOW: Member = ("now", Holds::Lawful(u64::MAX, 0, 1 << 60), MUST);
 
 const USAGE: Member = ("usage", Holds::Name, MUST);
 
-// For one modem alone.
-const SID_OF_STATION: Member = (
+// For the modems of one SID, which is that of all of them at the most. Which SIDs are lawful, the usage says.
+const SID_OF_USAGE: Member = (
     "sid",
-    Holds::Lawful(u16::MAX as u64, 1, 8191),
+    Holds::Lawful(u16::MAX as u64, 1, 16383),
     Missing::Nothing,
 );
 
@@ -229,7 +231,7 @@ pub static CALLS: [Form; MOST_FORMS] = [
     ("build", &[CALL, NOW]),
     ("skip", &[CALL, NOW]),
     ("status", &[CALL, SID]),
-    ("reserve", &[CALL, USAGE, SID_OF_STATION, SLOTS]),
+    ("reserve", &[CALL, USAGE, SID_OF_USAGE, SLOTS]),
     (
         "header",
         &[

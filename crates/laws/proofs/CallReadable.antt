@@ -6,7 +6,7 @@ use Rattle.std.specs.Prelude.{codes}
 use Rattle.std.specs.List.{AllByRecursion}
 use Rattle.std.proofs.lemmas.Bool.{cases_Bool}
 use Rattle.json.proofs.Printed.Utf8.{are_ascii, IsUtf8-are_ascii}
-use Rattle.serde_json.specs.Data.{Members, object, no_members, member}
+use Rattle.serde_json.specs.Data.{Members, object, member}
 use Rattle.serde_json.specs.View.{items_of}
 use Rattle.minislots.specs.declared.bursts.Bursts.{Bursts}
 use Rattle.minislots.specs.declared.bursts.Bursts.TheVariants.{Uniform, Described}
@@ -18,14 +18,17 @@ use Rattle.sched_calls.specs.declared.amount.Amount.TheVariants.{Bytes, Slots}
 use Rattle.sched_calls.specs.declared.spec.FlowSpec.{FlowSpec}
 use Rattle.sched_calls.specs.declared.spec.FlowSpec.TheVariants.{Unsolicited, Polled, BestEffort}
 use Rattle.sched_calls.specs.declared.call.Call.{Call}
-use Rattle.sched_calls.specs.declared.opportunity.Usage.TheVariants.{Initial, Station}
+use Rattle.sched_calls.specs.declared.opportunity.Usage.TheVariants.{Initial, InitialTo, Station}
+use Rattle.sched_calls.specs.declared.opportunity.Usage.TheVariants.{Request, Quiet, DataTo}
 use Rattle.sched_calls.specs.declared.call.Call.TheVariants.{Admit, Remove, Ask, Heard, Build, Skip, Status}
 use Rattle.sched_calls.specs.declared.call.Call.TheVariants.{Reserve, Header, Replace, Change, Rest, Wake}
-use Rattle.history_writing.specs.Json.{count, flow_data, request_data, parameters_data, call_data}
+use Rattle.history_writing.specs.Json.{count, flow_data, request_data, parameters_data, reserve_for, reserve_to}
+use Rattle.history_writing.specs.Json.{call_data}
 use Rattle.history_writing.specs.HistoryText.{profile_data, descriptors_data, front_members, back_members}
 use Rattle.history_writing.specs.HistoryText.{optional_member, members_with, config_data}
 use Rattle.history_writing.specs.Fits.{FlowFits, AmountFits, CallFits, ProfileFits, BurstsFit, ConfigFits}
-use Rattle.laws.proofs.Readable.{IsReadable, AreReadable, MembersReadable, put_each}
+use Rattle.laws.proofs.Readable.{IsReadable, AreReadable, MembersReadable}
+use Rattle.laws.proofs.Standing.{in_order}
 use Rattle.laws.proofs.ReadBack.{unsolicited_stands}
 
 -- narrower numbers
@@ -146,6 +149,34 @@ parameters_readable : (called : List ℕ) (sid : ℕ) (spec : FlowSpec) → are_
 parameters_readable called sid spec small sids fits =
     (refl, (refl, name called small, (refl, flow_readable spec fits, (refl, of_half sid sids, tt))))
 
+-- so is a Reserve of a usage that no SID stands beside
+reserve_for_readable : (usage : List ℕ) (slots : ℕ) → are_ascii usage ≡ true → slots < 2 ^ 32
+    → IsReadable (reserve_for usage slots)
+reserve_for_readable usage slots small fits = (
+  refl,
+  (
+    refl,
+    name (codes "reserve") refl,
+    (refl, of_word slots fits, (refl, name usage small, tt)),
+  ),
+)
+
+-- and one with its SID
+reserve_to_readable : (usage : List ℕ) (sid slots : ℕ) → are_ascii usage ≡ true → sid < 2 ^ 16 → slots < 2 ^ 32
+    → IsReadable (reserve_to usage sid slots)
+reserve_to_readable usage sid slots small sids fits = (
+  refl,
+  (
+    refl,
+    name (codes "reserve") refl,
+    (
+      refl,
+      of_half sid sids,
+      (refl, of_word slots fits, (refl, name usage small, tt)),
+    ),
+  ),
+)
+
 -- a call is read again in its text
 pub call_readable : (call : Call) → CallFits call → IsReadable (call_data call)
 unfolding call_data
@@ -158,26 +189,15 @@ call_readable (Heard receiver upto) fits =
 call_readable (Build now) fits = (refl, (refl, name (codes "build") refl, (refl, fits, tt)))
 call_readable (Skip now) fits = (refl, (refl, name (codes "skip") refl, (refl, fits, tt)))
 call_readable (Status sid) fits = (refl, (refl, name (codes "status") refl, (refl, of_half sid fits, tt)))
-call_readable (Reserve Initial slots) fits = (
-  refl,
-  (
-    refl,
-    name (codes "reserve") refl,
-    (refl, of_word slots fits, (refl, name (codes "initial") refl, tt)),
-  ),
-)
-call_readable (Reserve (Station sid) slots) fits = (
-  refl,
-  (
-    refl,
-    name (codes "reserve") refl,
-    (
-      refl,
-      of_half sid fits.0,
-      (refl, of_word slots fits.1, (refl, name (codes "station") refl, tt)),
-    ),
-  ),
-)
+call_readable (Reserve Initial slots) fits = reserve_for_readable (codes "initial") slots refl fits
+call_readable (Reserve (InitialTo sid) slots) fits =
+    reserve_to_readable (codes "initial_to") sid slots refl fits.0 fits.1
+call_readable (Reserve (Station sid) slots) fits =
+    reserve_to_readable (codes "station") sid slots refl fits.0 fits.1
+call_readable (Reserve (Request sid) slots) fits =
+    reserve_to_readable (codes "request") sid slots refl fits.0 fits.1
+call_readable (Reserve Quiet slots) fits = reserve_for_readable (codes "quiet") slots refl fits
+call_readable (Reserve (DataTo sid) slots) fits = reserve_to_readable (codes "data") sid slots refl fits.0 fits.1
 call_readable (Header header) fits = (
   refl,
   (
@@ -275,7 +295,12 @@ front_readable c behind fits readable = (
             (
               refl,
               of_word c.grant_cap fits.grant_cap,
-              (refl, of_word c.lead fits.lead, readable),
+              (
+                refl,
+                of_word c.lead fits.lead,
+                optional_readable 0 (codes "open_idle") c.open_idle _ refl (of_byte c.open_idle fits.open_idle)
+                    readable,
+              ),
             ),
           ),
         ),
@@ -308,7 +333,7 @@ back_readable c fits =
                 (
                   refl,
                   of_word c.req_slots fits.req_slots,
-                  (
+                  optional_readable 0 (codes "settle") c.settle _ refl (of_word c.settle fits.settle) (
                     refl,
                     of_word c.short_max fits.short_max,
                     (
@@ -328,55 +353,6 @@ back_readable c fits =
         ),
       ),
     ))
-
--- the members are in the order of their keys, whichever are left out
-in_order : (c : Config) (bursts : Bursts) → put_each (members_with c bursts) no_members ≡ members_with c bursts
-in_order c (Uniform bytes_per_slot overhead) =
-    elim (cases_Bool (c.flows == 64)) [
-      | inl a ↦ elim (cases_Bool (c.pending == 64)) [
-        | inl b ↦ elim (cases_Bool (c.periodic == 40)) [
-          | inl d ↦ rw (a, b, d) refl
-          | inr d ↦ rw (a, b, d) refl
-        ]
-        | inr b ↦ elim (cases_Bool (c.periodic == 40)) [
-          | inl d ↦ rw (a, b, d) refl
-          | inr d ↦ rw (a, b, d) refl
-        ]
-      ]
-      | inr a ↦ elim (cases_Bool (c.pending == 64)) [
-        | inl b ↦ elim (cases_Bool (c.periodic == 40)) [
-          | inl d ↦ rw (a, b, d) refl
-          | inr d ↦ rw (a, b, d) refl
-        ]
-        | inr b ↦ elim (cases_Bool (c.periodic == 40)) [
-          | inl d ↦ rw (a, b, d) refl
-          | inr d ↦ rw (a, b, d) refl
-        ]
-      ]
-    ]
-in_order c (Described these) =
-    elim (cases_Bool (c.flows == 64)) [
-      | inl a ↦ elim (cases_Bool (c.pending == 64)) [
-        | inl b ↦ elim (cases_Bool (c.periodic == 40)) [
-          | inl d ↦ rw (a, b, d) refl
-          | inr d ↦ rw (a, b, d) refl
-        ]
-        | inr b ↦ elim (cases_Bool (c.periodic == 40)) [
-          | inl d ↦ rw (a, b, d) refl
-          | inr d ↦ rw (a, b, d) refl
-        ]
-      ]
-      | inr a ↦ elim (cases_Bool (c.pending == 64)) [
-        | inl b ↦ elim (cases_Bool (c.periodic == 40)) [
-          | inl d ↦ rw (a, b, d) refl
-          | inr d ↦ rw (a, b, d) refl
-        ]
-        | inr b ↦ elim (cases_Bool (c.periodic == 40)) [
-          | inl d ↦ rw (a, b, d) refl
-          | inr d ↦ rw (a, b, d) refl
-        ]
-      ]
-    ]
 
 members_readable : (c : Config) (bursts : Bursts) → ConfigFits c → BurstsFit bursts
     → IsReadable (object (members_with c bursts))

@@ -7,13 +7,15 @@ use Rattle.std.proofs.lemmas.Bool.Decides.{nat_tests}
 use Rattle.serde_json.specs.Data.{Data}
 use Rattle.serde_json.specs.Find.{get}
 use Rattle.sched_calls.specs.declared.opportunity.Usage.{Usage}
-use Rattle.sched_calls.specs.declared.opportunity.Usage.TheVariants.{Initial, Station}
+use Rattle.sched_calls.specs.declared.opportunity.Usage.TheVariants.{Initial, InitialTo, Station}
+use Rattle.sched_calls.specs.declared.opportunity.Usage.TheVariants.{Request, Quiet, DataTo}
 use Rattle.sched_calls.specs.declared.call.Call.TheVariants.{Reserve}
 use Rattle.sched_calls.specs.declared.reply.Entry.{Entry}
 use Rattle.json_fields.specs.Fields.{◌>>=◌, below, number_at, u8_at, u16_at, u32_at, u64_at, text_at, or_number, u8_or}
 use Rattle.call_reading.specs.Calls.{unsolicited_of, polled_of, best_effort_of, flow_of, admit_call, remove_call}
-use Rattle.call_reading.specs.Calls.{amount_of, ask_call, heard_call, build_call, skip_call, status_call, usage_of}
-use Rattle.call_reading.specs.Calls.{reserve_call, header_call, replace_call, change_call, rest_call, wake_call, call_of}
+use Rattle.call_reading.specs.Calls.{amount_of, ask_call, heard_call, build_call, skip_call, status_call}
+use Rattle.call_reading.specs.Calls.{usage_to, usage_of, reserve_call, header_call, replace_call, change_call}
+use Rattle.call_reading.specs.Calls.{rest_call, wake_call, call_of}
 use Rattle.text_stream.specs.Input.{value_of}
 use Rattle.text_stream.specs.declared.TheConstants.{MAX_LINE}
 use Rattle.history_writing.specs.Fits.{FlowFits, AmountFits, CallFits}
@@ -153,19 +155,34 @@ status-fits d = bind _ _ (u16_at (codes "sid") d) _ (u16_at-below (codes "sid") 
 -- the SID of a usage fits, where it has one
 abbrev UsageFits : Usage → Type 0
 UsageFits Initial = Unit {0}
+UsageFits (InitialTo sid) = sid < 2 ^ 16
 UsageFits (Station sid) = sid < 2 ^ 16
+UsageFits (Request sid) = sid < 2 ^ 16
+UsageFits Quiet = Unit {0}
+UsageFits (DataTo sid) = sid < 2 ^ 16
+
+usage_to-fits : (usage : List ℕ) (sid : ℕ) → sid < 2 ^ 16 → IfSome (usage_to usage sid) UsageFits
+usage_to-fits usage sid small =
+    either UsageFits (bytes_eq usage (codes "initial_to")) (Some (InitialTo sid)) _ small
+    (either UsageFits (bytes_eq usage (codes "station")) (Some (Station sid)) _ small
+    (either UsageFits (bytes_eq usage (codes "request")) (Some (Request sid)) _ small
+    (either UsageFits (bytes_eq usage (codes "data")) (Some (DataTo sid)) None small tt)))
 
 usage-fits : (d : Data) → IfSome (usage_of d) UsageFits
 unfolding usage_of
 usage-fits d =
     then_any UsageFits (text_at (codes "usage") d) _ (λ usage.
     either UsageFits (bytes_eq usage (codes "initial")) (Some Initial) _ tt
-    (either UsageFits (bytes_eq usage (codes "station")) _ None
-    (bind _ UsageFits (u16_at (codes "sid") d) _ (u16_at-below (codes "sid") d) (λ sid small. small)) tt))
+    (either UsageFits (bytes_eq usage (codes "quiet")) (Some Quiet) _ tt
+    (bind _ UsageFits (u16_at (codes "sid") d) _ (u16_at-below (codes "sid") d) (usage_to-fits usage))))
 
 reserved-fits : (usage : Usage) (slots : ℕ) → UsageFits usage → slots < 2 ^ 32 → CallFits (Reserve usage slots)
 reserved-fits Initial slots fits small = small
+reserved-fits (InitialTo sid) slots fits small = (fits, small)
 reserved-fits (Station sid) slots fits small = (fits, small)
+reserved-fits (Request sid) slots fits small = (fits, small)
+reserved-fits Quiet slots fits small = small
+reserved-fits (DataTo sid) slots fits small = (fits, small)
 
 reserve-fits : (d : Data) → IfSome (reserve_call d) CallFits
 unfolding reserve_call

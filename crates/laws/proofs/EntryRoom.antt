@@ -18,7 +18,8 @@ use Rattle.sched_calls.specs.declared.amount.Amount.TheVariants.{Bytes, Slots}
 use Rattle.sched_calls.specs.declared.spec.FlowSpec.{FlowSpec}
 use Rattle.sched_calls.specs.declared.spec.FlowSpec.TheVariants.{Unsolicited, Polled, BestEffort}
 use Rattle.sched_calls.specs.declared.frame_map.FrameMap.{FrameMap}
-use Rattle.sched_calls.specs.declared.opportunity.Usage.TheVariants.{Initial, Station}
+use Rattle.sched_calls.specs.declared.opportunity.Usage.TheVariants.{Initial, InitialTo, Station}
+use Rattle.sched_calls.specs.declared.opportunity.Usage.TheVariants.{Request, Quiet, DataTo}
 use Rattle.sched_calls.specs.declared.call.Call.{Call}
 use Rattle.sched_calls.specs.declared.call.Call.TheVariants.{Admit, Remove, Ask, Heard, Build, Skip, Status}
 use Rattle.sched_calls.specs.declared.call.Call.TheVariants.{Reserve, Header, Replace, Change, Rest, Wake}
@@ -66,7 +67,11 @@ room-call (Build now) = omega arith
 room-call (Skip now) = omega arith
 room-call (Status sid) = omega arith
 room-call (Reserve Initial slots) = omega arith
+room-call (Reserve (InitialTo sid) slots) = omega arith
 room-call (Reserve (Station sid) slots) = omega arith
+room-call (Reserve (Request sid) slots) = omega arith
+room-call (Reserve Quiet slots) = omega arith
+room-call (Reserve (DataTo sid) slots) = omega arith
 room-call (Header header) = omega arith
 room-call (Replace receiver sid (Bytes bytes) heard) = omega arith
 room-call (Replace receiver sid (Slots slots) heard) = omega arith
@@ -130,19 +135,37 @@ room-descriptors d =
 
 room-front : (c : Config) (behind : Members) → members_room (front_members c behind) ≤ members_room behind + 1000
 room-front c behind = elim (cases_Bool (c.flows == 64)) [
-  | inl same ↦ rw same (omega arith)
-  | inr other ↦ rw other (omega arith)
+  | inl a ↦ elim (cases_Bool (c.open_idle == 0)) [
+    | inl b ↦ rw (a, b) (omega arith)
+    | inr b ↦ rw (a, b) (omega arith)
+  ]
+  | inr a ↦ elim (cases_Bool (c.open_idle == 0)) [
+    | inl b ↦ rw (a, b) (omega arith)
+    | inr b ↦ rw (a, b) (omega arith)
+  ]
 ]
 
 room-back : (c : Config) → members_room (back_members c) ≤ 1500
 room-back c = elim (cases_Bool (c.pending == 64)) [
   | inl a ↦ elim (cases_Bool (c.periodic == 40)) [
-    | inl b ↦ rw (a, b) (omega arith)
-    | inr b ↦ rw (a, b) (omega arith)
+    | inl b ↦ elim (cases_Bool (c.settle == 0)) [
+      | inl d ↦ rw (a, b, d) (omega arith)
+      | inr d ↦ rw (a, b, d) (omega arith)
+    ]
+    | inr b ↦ elim (cases_Bool (c.settle == 0)) [
+      | inl d ↦ rw (a, b, d) (omega arith)
+      | inr d ↦ rw (a, b, d) (omega arith)
+    ]
   ]
   | inr a ↦ elim (cases_Bool (c.periodic == 40)) [
-    | inl b ↦ rw (a, b) (omega arith)
-    | inr b ↦ rw (a, b) (omega arith)
+    | inl b ↦ elim (cases_Bool (c.settle == 0)) [
+      | inl d ↦ rw (a, b, d) (omega arith)
+      | inr d ↦ rw (a, b, d) (omega arith)
+    ]
+    | inr b ↦ elim (cases_Bool (c.settle == 0)) [
+      | inl d ↦ rw (a, b, d) (omega arith)
+      | inr d ↦ rw (a, b, d) (omega arith)
+    ]
   ]
 ]
 

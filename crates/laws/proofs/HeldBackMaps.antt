@@ -17,7 +17,7 @@ use Rattle.map_build.specs.Spots.{IsFlowSid}
 use Rattle.map_build.specs.Purpose.{element_of}
 use Rattle.map_build.specs.declared.purpose.Allocation.{Allocation}
 use Rattle.map_build.specs.Plan.{grants_to, flow_after, flows_after}
-use Rattle.map_build.specs.FrameMap.{request_region, null_element, pending_of, pending}
+use Rattle.map_build.specs.FrameMap.{head_of, null_element, pending_of, pending}
 use Rattle.map_build.proofs.SameSpots.{all-members}
 use Rattle.sched_calls.specs.declared.call.Call.{Call}
 use Rattle.sched_calls.specs.declared.call.Call.TheVariants as calls
@@ -123,9 +123,10 @@ module _ (c : Config) (h : List Entry) (e : Entry) (m : FrameMap) (same : e.repl
   ack-built = ap (λ (n : FrameMap). n.ack) next.2 ∙ ap (ack_of c.pending (ack_after c h)) (sym flows-built)
 
   elements-built : m.wire.elements
-      ≡ (request_region ∷ map (element_of c) plan) ++ null_element c ∷ pending c after
+      ≡ (head_of c (demand_after c h) ∷ map (element_of c) plan) ++ null_element c ∷ pending c after
   elements-built = ap (λ (n : FrameMap). n.wire.elements) next.2
-      ∙ ap (λ fs. request_region ∷ (map (element_of c) plan ++ null_element c ∷ pending c fs)) (sym flows-built)
+      ∙ ap (λ fs. head_of c (demand_after c h) ∷ (map (element_of c) plan ++ null_element c ∷ pending c fs))
+      (sym flows-built)
 
   small : AreSmall after
   small = all-implied (λ f. IsFlowSid f.sid) (λ f. f.sid < 2 ^ 16) after (λ f is. omega (arith, is.1))
@@ -154,7 +155,7 @@ module _ (c : Config) (h : List Entry) (e : Entry) (m : FrameMap) (same : e.repl
 
   pub shows : (f : LiveFlow) → Contains after f → late m.ack f ≡ true → HasPending c m f
   shows f has is = record {
-    front = request_region ∷ map (element_of c) plan;
+    front = head_of c (demand_after c h) ∷ map (element_of c) plan;
     behind = pending c after;
     whole = elements-built;
     pending = contains-kept (is_shown c.pending after) (pending_of c) f after has.0 has.1 has.2

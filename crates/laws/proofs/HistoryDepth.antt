@@ -14,7 +14,8 @@ use Rattle.sched_calls.specs.declared.amount.Amount.TheVariants.{Bytes, Slots}
 use Rattle.sched_calls.specs.declared.spec.FlowSpec.{FlowSpec}
 use Rattle.sched_calls.specs.declared.spec.FlowSpec.TheVariants.{Unsolicited, Polled, BestEffort}
 use Rattle.sched_calls.specs.declared.call.Call.{Call}
-use Rattle.sched_calls.specs.declared.opportunity.Usage.TheVariants.{Initial, Station}
+use Rattle.sched_calls.specs.declared.opportunity.Usage.TheVariants.{Initial, InitialTo, Station}
+use Rattle.sched_calls.specs.declared.opportunity.Usage.TheVariants.{Request, Quiet, DataTo}
 use Rattle.sched_calls.specs.declared.call.Call.TheVariants.{Admit, Remove, Ask, Heard, Build, Skip, Status}
 use Rattle.sched_calls.specs.declared.call.Call.TheVariants.{Reserve, Header, Replace, Change, Rest, Wake}
 use Rattle.sched_calls.specs.declared.reply.Reply.{Reply}
@@ -54,7 +55,11 @@ depth-call (Build now) = omega arith
 depth-call (Skip now) = omega arith
 depth-call (Status sid) = omega arith
 depth-call (Reserve Initial slots) = omega arith
+depth-call (Reserve (InitialTo sid) slots) = omega arith
 depth-call (Reserve (Station sid) slots) = omega arith
+depth-call (Reserve (Request sid) slots) = omega arith
+depth-call (Reserve Quiet slots) = omega arith
+depth-call (Reserve (DataTo sid) slots) = omega arith
 depth-call (Header header) = omega arith
 depth-call (Replace receiver sid (Bytes bytes) heard) = omega arith
 depth-call (Replace receiver sid (Slots slots) heard) = omega arith
@@ -114,19 +119,37 @@ depth-descriptors d =
 
 depth-front : (c : Config) (behind : Members) → members_depth (front_members c behind) ≤ members_depth behind
 depth-front c behind = elim (cases_Bool (c.flows == 64)) [
-  | inl same ↦ rw same (omega arith)
-  | inr other ↦ rw other (omega arith)
+  | inl a ↦ elim (cases_Bool (c.open_idle == 0)) [
+    | inl b ↦ rw (a, b) (omega arith)
+    | inr b ↦ rw (a, b) (omega arith)
+  ]
+  | inr a ↦ elim (cases_Bool (c.open_idle == 0)) [
+    | inl b ↦ rw (a, b) (omega arith)
+    | inr b ↦ rw (a, b) (omega arith)
+  ]
 ]
 
 depth-back : (c : Config) → members_depth (back_members c) ≡ 0
 depth-back c = elim (cases_Bool (c.pending == 64)) [
   | inl a ↦ elim (cases_Bool (c.periodic == 40)) [
-    | inl b ↦ rw (a, b) refl
-    | inr b ↦ rw (a, b) refl
+    | inl b ↦ elim (cases_Bool (c.settle == 0)) [
+      | inl d ↦ rw (a, b, d) refl
+      | inr d ↦ rw (a, b, d) refl
+    ]
+    | inr b ↦ elim (cases_Bool (c.settle == 0)) [
+      | inl d ↦ rw (a, b, d) refl
+      | inr d ↦ rw (a, b, d) refl
+    ]
   ]
   | inr a ↦ elim (cases_Bool (c.periodic == 40)) [
-    | inl b ↦ rw (a, b) refl
-    | inr b ↦ rw (a, b) refl
+    | inl b ↦ elim (cases_Bool (c.settle == 0)) [
+      | inl d ↦ rw (a, b, d) refl
+      | inr d ↦ rw (a, b, d) refl
+    ]
+    | inr b ↦ elim (cases_Bool (c.settle == 0)) [
+      | inl d ↦ rw (a, b, d) refl
+      | inr d ↦ rw (a, b, d) refl
+    ]
   ]
 ]
 

@@ -19,6 +19,7 @@ use Rattle.sched_calls.specs.Header.{header_of}
 use Rattle.map_build.specs.Purpose.{bytes_in}
 use Rattle.map_build.specs.Plan.{Demand, Stands, IsOfClass, flows_after}
 use Rattle.map_build.specs.FrameMap.{pending, bytes_of_plan}
+use Rattle.map_build.proofs.Planned.{plan-within}
 use Rattle.map_build.proofs.WellFormed.{AreEncodable, elements_of-encodable}
 use Rattle.sched_calls.specs.declared.call.Call.{Call}
 use Rattle.sched_calls.specs.declared.call.Call.TheVariants as calls
@@ -30,7 +31,7 @@ use Rattle.sched_history.specs.Time.{next_after, ack_after}
 use Rattle.sched_history.specs.Reserves.{header_by, header_after}
 use Rattle.sched_history.specs.History.{IsLegal, IsNextMap, demand_after}
 use Rattle.sched_history.proofs.facts.Orderly.{next_orderly, flows_of-in_range, due_in-in_range}
-use Rattle.sched_history.proofs.reserves.GoodReserves.{HaveStationSids-legal}
+use Rattle.sched_history.proofs.reserves.GoodReserves.{HaveElementSids-legal}
 use Rattle.sched_history.proofs.steps.LegalBounds.{next_after-most}
 use Rattle.history_writing.specs.Fits.{CallFits, ConfigFits, MapFits}
 use Rattle.laws.proofs.Times.{ack_after-most}
@@ -129,7 +130,7 @@ module _ (c : Config) (bounds : HasBounds c) (d : Demand) where
 
   -- each byte count is at most the cap
   bytes_fit : (plan : List Allocation) → EachAfter (Stands c d) [] plan
-      → AllByRecursion (λ n. n < 2 ^ 32) (bytes_of_plan c d.flows d.start plan)
+      → AllByRecursion (λ n. n < 2 ^ 32) (bytes_of_plan c d plan)
   bytes_fit plan each =
       let tail = pending c (flows_after d.start plan d.flows) in (
         omega arith,
@@ -148,7 +149,8 @@ next_fits c h m lawful config_fits legal fits next =
     let good : AreEncodable m.wire.elements =
     subst AreEncodable (sym elements)
     (elements_of-encodable c d next.0 (omega (arith, bounds.frame_most)) (flows_of-in_range c h)
-    (due_in-in_range c (next_after c h / c.frame) h) (HaveStationSids-legal c h legal) next.1.each next.1.whole) in
+    (due_in-in_range c (next_after c h / c.frame) h) (HaveElementSids-legal c h legal) next.1.each
+    (plan-within c d next.0 (omega (arith, bounds.requests_fit)) next.1)) in
     record {
       start = omega (arith, ap (λ (m : FrameMap). m.start) next.2, next_after-most c lawful h legal);
       ack = omega (

@@ -2,7 +2,7 @@
 -- and each configuration with its calls has a script.
 use Rattle.std.proofs.Common.{◌≡◌, ◌⊎◌, ℕ, ◌+◌, ◌<◌, ◌^◌, ◌==◌, true, List, [], ◌∷◌, map, None, Some, Ok, inl, inr}
 use Rattle.std.proofs.Common.{refl, sym, ap, ◌∙◌, arith}
-use Rattle.std.specs.Prelude.{codes}
+use Rattle.std.specs.Prelude.{codes, Option, option_and_then, if◌then◌else◌}
 use Rattle.std.specs.List.{AllByRecursion}
 use Rattle.std.proofs.lemmas.Bool.{lt-ltb, cases_Bool}
 use Rattle.std.proofs.lemmas.Bool.Decides.{nat_tests}
@@ -18,22 +18,22 @@ use Rattle.sched_calls.specs.declared.amount.Amount.TheVariants.{Bytes, Slots}
 use Rattle.sched_calls.specs.declared.spec.FlowSpec.{FlowSpec}
 use Rattle.sched_calls.specs.declared.spec.FlowSpec.TheVariants.{Unsolicited, Polled, BestEffort}
 use Rattle.sched_calls.specs.declared.call.Call.{Call}
-use Rattle.sched_calls.specs.declared.opportunity.Usage.TheVariants.{Initial, Station}
+use Rattle.sched_calls.specs.declared.opportunity.Usage.TheVariants.{Initial, InitialTo, Station}
+use Rattle.sched_calls.specs.declared.opportunity.Usage.TheVariants.{Request, Quiet, DataTo}
 use Rattle.sched_calls.specs.declared.call.Call.TheVariants.{Admit, Remove, Ask, Heard, Build, Skip, Status}
 use Rattle.sched_calls.specs.declared.call.Call.TheVariants.{Reserve, Header, Replace, Change, Rest, Wake}
 use Rattle.json_fields.specs.Fields.{below, number_at, u8_at, u16_at, u32_at, u64_at, text_at, slots_of, sizes_of}
 use Rattle.json_fields.specs.Fields.{counts_of, windows_of, u8_or, profile_of, profile_at, descriptors_of, uniform_of}
-use Rattle.json_fields.specs.Fields.{bursts_of, u32_or, limits_of, config_of}
+use Rattle.json_fields.specs.Fields.{bursts_of, or_number, u32_or, limits_of, idles_of, config_of}
 use Rattle.call_reading.specs.Calls.{unsolicited_of, polled_of, best_effort_of, flow_of, admit_call, remove_call}
 use Rattle.call_reading.specs.Calls.{amount_of, ask_call, heard_call, build_call, skip_call, status_call, usage_of}
 use Rattle.call_reading.specs.Calls.{reserve_call, header_call, replace_call, change_call, rest_call, wake_call, call_of}
 use Rattle.script_reading.specs.Script.{calls_of, script_of}
 use Rattle.history_writing.specs.Json.{count, flow_data, call_data}
 use Rattle.history_writing.specs.HistoryText.{is_same_profile, profile_data, unsolicited_member, descriptors_data}
-use Rattle.history_writing.specs.HistoryText.{optional_member, members_with, config_data}
+use Rattle.history_writing.specs.HistoryText.{members_with, config_data}
 use Rattle.history_writing.specs.Fits.{FlowFits, CallFits, ProfileFits, BurstsFit, ConfigFits}
-use Rattle.laws.proofs.Standing.{passes_optional, first_members, middle_members, last_members, standing, always_stands}
-use Rattle.laws.proofs.Standing.{found_there, flows_alone, pending_alone, periodic_alone}
+use Rattle.laws.proofs.Standing.{found_there, Has, has}
 
 -- a number that fits
 pub below-fits : (limit n : ℕ) → n < limit → below limit n ≡ Some n
@@ -76,7 +76,14 @@ call_of-data (Build now) fits = rw (below-fits (2 ^ 64) now fits) refl
 call_of-data (Skip now) fits = rw (below-fits (2 ^ 64) now fits) refl
 call_of-data (Status sid) fits = rw (below-fits (2 ^ 16) sid fits) refl
 call_of-data (Reserve Initial slots) fits = rw (below-fits (2 ^ 32) slots fits) refl
+call_of-data (Reserve (InitialTo sid) slots) fits =
+    rw (below-fits (2 ^ 16) sid fits.0) (rw (below-fits (2 ^ 32) slots fits.1) refl)
 call_of-data (Reserve (Station sid) slots) fits =
+    rw (below-fits (2 ^ 16) sid fits.0) (rw (below-fits (2 ^ 32) slots fits.1) refl)
+call_of-data (Reserve (Request sid) slots) fits =
+    rw (below-fits (2 ^ 16) sid fits.0) (rw (below-fits (2 ^ 32) slots fits.1) refl)
+call_of-data (Reserve Quiet slots) fits = rw (below-fits (2 ^ 32) slots fits) refl
+call_of-data (Reserve (DataTo sid) slots) fits =
     rw (below-fits (2 ^ 16) sid fits.0) (rw (below-fits (2 ^ 32) slots fits.1) refl)
 call_of-data (Header header) fits =
     rw (below-fits (2 ^ 8) header.ucd_count fits.0) (
@@ -142,25 +149,25 @@ descriptors_of-data d fits =
     ])))
 
 -- a number that always stands is found
-found : (c : Config) (b : Bursts) (key : List ℕ) (n : ℕ) → always_stands key ≡ true
-    → get_member key (standing c) ≡ Some (count n) → number_at key (object (members_with c b)) ≡ Some n
+found : (c : Config) (b : Bursts) (key : List ℕ) (n : ℕ) → Has c key (Some (count n))
+    → number_at key (object (members_with c b)) ≡ Some n
 unfolding number_at
-found c b key n stands there = rw (found_there c b key stands ∙ there) refl
+found c b key n there = rw (has c b key (Some (count n)) there) refl
 
-found_byte : (c : Config) (b : Bursts) (key : List ℕ) (n : ℕ) → always_stands key ≡ true
-    → get_member key (standing c) ≡ Some (count n) → n < 2 ^ 8 → u8_at key (object (members_with c b)) ≡ Some n
+found_byte : (c : Config) (b : Bursts) (key : List ℕ) (n : ℕ) → Has c key (Some (count n)) → n < 2 ^ 8
+    → u8_at key (object (members_with c b)) ≡ Some n
 unfolding u8_at
-found_byte c b key n stands there fits = rw (found c b key n stands there) (below-fits (2 ^ 8) n fits)
+found_byte c b key n there fits = rw (found c b key n there) (below-fits (2 ^ 8) n fits)
 
-found_word : (c : Config) (b : Bursts) (key : List ℕ) (n : ℕ) → always_stands key ≡ true
-    → get_member key (standing c) ≡ Some (count n) → n < 2 ^ 32 → u32_at key (object (members_with c b)) ≡ Some n
+found_word : (c : Config) (b : Bursts) (key : List ℕ) (n : ℕ) → Has c key (Some (count n)) → n < 2 ^ 32
+    → u32_at key (object (members_with c b)) ≡ Some n
 unfolding u32_at
-found_word c b key n stands there fits = rw (found c b key n stands there) (below-fits (2 ^ 32) n fits)
+found_word c b key n there fits = rw (found c b key n there) (below-fits (2 ^ 32) n fits)
 
-found_long : (c : Config) (b : Bursts) (key : List ℕ) (n : ℕ) → always_stands key ≡ true
-    → get_member key (standing c) ≡ Some (count n) → n < 2 ^ 64 → u64_at key (object (members_with c b)) ≡ Some n
+found_long : (c : Config) (b : Bursts) (key : List ℕ) (n : ℕ) → Has c key (Some (count n)) → n < 2 ^ 64
+    → u64_at key (object (members_with c b)) ≡ Some n
 unfolding u64_at
-found_long c b key n stands there fits = rw (found c b key n stands there) (below-fits (2 ^ 64) n fits)
+found_long c b key n there fits = rw (found c b key n there) (below-fits (2 ^ 64) n fits)
 
 -- bursts are read back
 bursts_of-data : (c : Config) (bursts : Bursts) → BurstsFit bursts
@@ -168,29 +175,42 @@ bursts_of-data : (c : Config) (bursts : Bursts) → BurstsFit bursts
 unfolding bursts_of uniform_of u32_at number_at
 bursts_of-data c (Uniform bytes_per_slot overhead) fits =
     let none : get_member (codes "bursts") (members_with c (Uniform bytes_per_slot overhead)) ≡ None =
-    passes_optional (codes "bursts") (codes "flows") 64 c.flows _ refl
-    ∙ passes_optional (codes "bursts") (codes "pending") 64 c.pending _ refl
-    ∙ passes_optional (codes "bursts") (codes "periodic") 40 c.periodic _ refl in
+    found_there c (Uniform bytes_per_slot overhead) (codes "bursts") in
     let spent : get_member (codes "overhead") (members_with c (Uniform bytes_per_slot overhead))
-    ≡ Some (count overhead) = passes_optional (codes "overhead") (codes "flows") 64 c.flows _ refl in
+    ≡ Some (count overhead) = found_there c (Uniform bytes_per_slot overhead) (codes "overhead") in
     rw (none, spent) (
     rw (below-fits (2 ^ 32) bytes_per_slot fits.0) (rw (below-fits (2 ^ 32) overhead fits.1) refl))
 bursts_of-data c (Described d) fits = rw (descriptors_of-data d fits) refl
 
--- a limit is read back: where it is left out it is the one of a missing member
-optional_of-data : (missing : ℕ) (key : List ℕ) (n : ℕ) (d : Data) → n < 2 ^ 32
-    → get key d ≡ get_member key (optional_member missing key n no_members)
-    → get_member key (member key (count n) no_members) ≡ Some (count n) → u32_or missing key d ≡ Some n
-unfolding u32_or u32_at number_at
-optional_of-data missing key n d fits is there = elim (cases_Bool (n == missing)) [
+-- what stands under the key of a number that may be left out
+abbrev or_none : ℕ → ℕ → Option Data
+or_none missing n = if n == missing then None else Some (count n)
+
+-- such a number is read back: where it is left out it is the one of a missing member
+or_missing-data : (limit missing : ℕ) (key : List ℕ) (n : ℕ) (d : Data) → n < limit → get key d ≡ or_none missing n
+    → or_number missing (get key d) (option_and_then (λ n. below limit n) (number_at key d)) ≡ Some n
+unfolding number_at
+or_missing-data limit missing key n d fits is = elim (cases_Bool (n == missing)) [
   | inl same ↦
       let none : get key d ≡ None = is ∙ rw same refl in
       let as_missing : missing ≡ n = grind (arith, nat_tests) in
       rw none (ap Some as_missing)
   | inr other ↦
-      let some : get key d ≡ Some (count n) = is ∙ rw other there in
-      rw some (rw (below-fits (2 ^ 32) n fits) refl)
+      let some : get key d ≡ Some (count n) = is ∙ rw other refl in
+      rw some (rw (below-fits limit n fits) refl)
 ]
+
+byte_or-data : (c : Config) (b : Bursts) (missing : ℕ) (key : List ℕ) (n : ℕ) → n < 2 ^ 8
+    → Has c key (or_none missing n) → u8_or missing key (object (members_with c b)) ≡ Some n
+unfolding u8_or u8_at
+byte_or-data c b missing key n fits there =
+    or_missing-data (2 ^ 8) missing key n (object (members_with c b)) fits (has c b key (or_none missing n) there)
+
+word_or-data : (c : Config) (b : Bursts) (missing : ℕ) (key : List ℕ) (n : ℕ) → n < 2 ^ 32
+    → Has c key (or_none missing n) → u32_or missing key (object (members_with c b)) ≡ Some n
+unfolding u32_or u32_at
+word_or-data c b missing key n fits there =
+    or_missing-data (2 ^ 32) missing key n (object (members_with c b)) fits (has c b key (or_none missing n) there)
 
 -- what stands there beside the bursts is that of the configuration
 abbrev HasOthers : Config → Data → Type 0
@@ -202,30 +222,30 @@ HasOthers c d = (slots_of d ≡ Some (c.ticks, c.frame, c.cycle))
     × (u8_or 0 (codes "phy") d ≡ Some c.phy)
 
 has_others : (c : Config) (b : Bursts) → ConfigFits c → HasOthers c (object (members_with c b))
-unfolding slots_of sizes_of counts_of windows_of u8_or first_members middle_members last_members
+unfolding slots_of sizes_of counts_of windows_of u8_or
 has_others c b fits =
     let byte = found_byte c b in
     let word = found_word c b in
-    let phy = found_there c b (codes "phy") refl in (
-      rw (word (codes "ticks") c.ticks refl refl fits.ticks) (
-          rw (word (codes "frame") c.frame refl refl fits.frame) (
-          rw (word (codes "cycle") c.cycle refl refl fits.cycle) refl)),
-      rw (word (codes "req_slots") c.req_slots refl refl fits.req_slots) (
-          rw (word (codes "poll_slots") c.poll_slots refl refl fits.poll_slots) (
-          rw (word (codes "lead") c.lead refl refl fits.lead) (
-          rw (word (codes "short_max") c.short_max refl refl fits.short_max) (
-          rw (word (codes "quantum") c.quantum refl refl fits.quantum) (
-          rw (word (codes "grant_cap") c.grant_cap refl refl fits.grant_cap) refl))))),
-      rw (byte (codes "receivers") c.receivers refl refl fits.receivers) (
-          rw (word (codes "calls") c.calls refl refl fits.calls) (
-          rw (found_long c b (codes "start") c.start refl refl fits.start) (
-          rw (byte (codes "channel") c.channel refl refl fits.channel) (
-          rw (byte (codes "ucd_count") c.ucd_count refl refl fits.ucd_count) refl)))),
-      rw (byte (codes "ranging_start") c.ranging_start refl refl fits.ranging_start) (
-          rw (byte (codes "ranging_end") c.ranging_end refl refl fits.ranging_end) refl),
-      rw (byte (codes "data_start") c.data_start refl refl fits.data_start) (
-          rw (byte (codes "data_end") c.data_end refl refl fits.data_end) refl),
-      rw (phy, byte (codes "phy") c.phy refl refl fits.phy) refl,
+    let phy = has c b (codes "phy") (Some (count c.phy)) ((λ m n. refl), λ d. refl) in (
+      rw (word (codes "ticks") c.ticks ((λ m n. refl), λ d. refl) fits.ticks) (
+          rw (word (codes "frame") c.frame ((λ m n. refl), λ d. refl) fits.frame) (
+          rw (word (codes "cycle") c.cycle ((λ m n. refl), λ d. refl) fits.cycle) refl)),
+      rw (word (codes "req_slots") c.req_slots ((λ m n. refl), λ d. refl) fits.req_slots) (
+          rw (word (codes "poll_slots") c.poll_slots ((λ m n. refl), λ d. refl) fits.poll_slots) (
+          rw (word (codes "lead") c.lead ((λ m n. refl), λ d. refl) fits.lead) (
+          rw (word (codes "short_max") c.short_max ((λ m n. refl), λ d. refl) fits.short_max) (
+          rw (word (codes "quantum") c.quantum ((λ m n. refl), λ d. refl) fits.quantum) (
+          rw (word (codes "grant_cap") c.grant_cap ((λ m n. refl), λ d. refl) fits.grant_cap) refl))))),
+      rw (byte (codes "receivers") c.receivers ((λ m n. refl), λ d. refl) fits.receivers) (
+          rw (word (codes "calls") c.calls ((λ m n. refl), λ d. refl) fits.calls) (
+          rw (found_long c b (codes "start") c.start ((λ m n. refl), λ d. refl) fits.start) (
+          rw (byte (codes "channel") c.channel ((λ m n. refl), λ d. refl) fits.channel) (
+          rw (byte (codes "ucd_count") c.ucd_count ((λ m n. refl), λ d. refl) fits.ucd_count) refl)))),
+      rw (byte (codes "ranging_start") c.ranging_start ((λ m n. refl), λ d. refl) fits.ranging_start) (
+          rw (byte (codes "ranging_end") c.ranging_end ((λ m n. refl), λ d. refl) fits.ranging_end) refl),
+      rw (byte (codes "data_start") c.data_start ((λ m n. refl), λ d. refl) fits.data_start) (
+          rw (byte (codes "data_end") c.data_end ((λ m n. refl), λ d. refl) fits.data_end) refl),
+      rw (phy, byte (codes "phy") c.phy ((λ m n. refl), λ d. refl) fits.phy) refl,
     )
 
 -- the limits are read back
@@ -233,10 +253,18 @@ limits_of-data : (c : Config) (b : Bursts) → ConfigFits c
     → limits_of (object (members_with c b)) ≡ Some (c.flows, c.pending, c.periodic)
 unfolding limits_of
 limits_of-data c b fits =
-    let d = object (members_with c b) in
-    rw (optional_of-data 64 (codes "flows") c.flows d fits.flows (flows_alone c b) refl) (
-    rw (optional_of-data 64 (codes "pending") c.pending d fits.pending (pending_alone c b) refl) (
-    rw (optional_of-data 40 (codes "periodic") c.periodic d fits.periodic (periodic_alone c b) refl) refl))
+    let word = word_or-data c b in
+    rw (word 64 (codes "flows") c.flows fits.flows ((λ m n. refl), λ d. refl)) (
+    rw (word 64 (codes "pending") c.pending fits.pending ((λ m n. refl), λ d. refl)) (
+    rw (word 40 (codes "periodic") c.periodic fits.periodic ((λ m n. refl), λ d. refl)) refl))
+
+-- and so are open idles and settling
+idles_of-data : (c : Config) (b : Bursts) → ConfigFits c
+    → idles_of (object (members_with c b)) ≡ Some (c.open_idle, c.settle)
+unfolding idles_of
+idles_of-data c b fits =
+    rw (byte_or-data c b 0 (codes "open_idle") c.open_idle fits.open_idle ((λ m n. refl), λ d. refl)) (
+    rw (word_or-data c b 0 (codes "settle") c.settle fits.settle ((λ m n. refl), λ d. refl)) refl)
 
 -- a configuration is read back
 pub config_of-data : (c : Config) → ConfigFits c → config_of (config_data c) ≡ Some c
@@ -244,7 +272,8 @@ unfolding config_of config_data
 config_of-data c fits =
     let others = has_others c c.bursts fits in
     rw others.0 (rw (bursts_of-data c c.bursts fits.bursts) (
-    rw others.1 (rw others.2 (rw others.3 (rw others.4 (rw others.5 (rw (limits_of-data c c.bursts fits) refl)))))))
+    rw others.1 (rw others.2 (rw others.3 (rw others.4 (rw others.5 (rw (limits_of-data c c.bursts fits) (
+    rw (idles_of-data c c.bursts fits) refl))))))))
 
 -- calls are read back, from any number on
 pub calls_of-data : (n : ℕ) (calls : List Call) → AllByRecursion CallFits calls

@@ -131,7 +131,7 @@ module _ (c : Config) (h : List Entry) (next-small : next_after c h < 2 ^ 64)
   refusal_fits (calls.Reserve usage slots) refusal is =
       refused (is_to_bad_sid usage) BadSid _ refusal is tt (λ is.
       refused (slots == 0 || nat_lt (c.frame - c.req_slots) slots) BadLength _ refusal is tt (λ is.
-      refused (nat_le MAX_RESERVES (length (reserves_of h))) ReservesFull _ refusal is tt (no_more refusal)))
+      refused (nat_le MAX_RESERVES (length (reserves_of c h))) ReservesFull _ refusal is tt (no_more refusal)))
   refusal_fits (calls.Header header) refusal is =
       refused_last
       (is_wide header.ranging_start || is_wide header.ranging_end || is_wide header.data_start

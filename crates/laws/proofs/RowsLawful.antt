@@ -31,6 +31,8 @@ base_fits = record {
   flows = omega arith;
   pending = omega arith;
   periodic = omega arith;
+  open_idle = omega arith;
+  settle = omega arith;
 }
 
 -- it is legal under a lawful configuration

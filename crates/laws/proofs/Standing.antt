@@ -1,173 +1,214 @@
--- What stands under a key among the members of a configuration, some of which may be left out.
+-- The members of a configuration by their places, some of which may be left out: what stands under a key, and that they
+-- are in the order of their keys.
 use Rattle.std.proofs.Common.{◌≡◌, ℕ, ◌==◌, Bool, true, false, ◌&&◌, List, [], ◌∷◌, Option, Some, None}
-use Rattle.std.proofs.Common.{Ordering, Less, Equal, Greater, inl, inr, refl, ap, ◌∙◌}
-use Rattle.std.specs.Prelude.{codes}
+use Rattle.std.proofs.Common.{Ordering, Less, Equal, Greater, inl, inr, refl, sym, ap, ◌∙◌}
+use Rattle.std.specs.Prelude.{codes, if◌then◌else◌}
 use Rattle.std.specs.Ordering.{nat_cmp, match_ordering}
 use Rattle.std.specs.Cmp.Lexicographic.{slice_cmp}
 use Rattle.std.proofs.lemmas.Bool.{cases_Bool}
-use Rattle.serde_json.specs.Data.{Data, Members, no_members, member}
+use Rattle.serde_json.specs.Data.{Data, Members, no_members, member, put}
 use Rattle.serde_json.specs.Find.{get_member}
 use Rattle.minislots.specs.declared.bursts.Bursts.{Bursts}
 use Rattle.minislots.specs.declared.bursts.Bursts.TheVariants.{Uniform, Described}
+use Rattle.minislots.specs.declared.bursts.Descriptors.{Descriptors}
 use Rattle.minislots.specs.declared.config.Config.{Config}
 use Rattle.history_writing.specs.Json.{count}
 use Rattle.history_writing.specs.HistoryText.{optional_member, descriptors_data, members_with}
+use Rattle.laws.proofs.Readable.{put_each}
 
--- the two keys are others
-abbrev pub are_others : List ℕ → List ℕ → Bool
-are_others key title = match_ordering (slice_cmp nat_cmp key title) true false true
+-- a member that always stands, and a number that stands where it is another than the one of a missing member
+pub data Part : Type 0 where
+  always : List ℕ → Data → Part
+  unless : ℕ → List ℕ → ℕ → Part
 
-passed : (o : Ordering) (x : Option Data) (d : Data) → match_ordering o true false true ≡ true
-    → match_ordering o x (Some d) x ≡ x
-passed Less x d other = refl
-passed Equal x d other = absurd cc
-passed Greater x d other = refl
+abbrev title_of : Part → List ℕ
+title_of (always title d) = title
+title_of (unless missing title n) = title
 
-passes : (key title : List ℕ) (d : Data) (behind : Members) → are_others key title ≡ true
-    → get_member key (member title d behind) ≡ get_member key behind
-passes key title d behind other = passed (slice_cmp nat_cmp key title) (get_member key behind) d other
+-- the members at these places
+abbrev pub laid : List Part → Members
+laid [] = no_members
+laid (always title d ∷ ps) = member title d (laid ps)
+laid (unless missing title n ∷ ps) = optional_member missing title n (laid ps)
 
--- a number that may be left out is passed over where another key is looked for
-pub passes_optional : (key title : List ℕ) (missing n : ℕ) (behind : Members) → are_others key title ≡ true
-    → get_member key (optional_member missing title n behind) ≡ get_member key behind
-passes_optional key title missing n behind other = elim (cases_Bool (n == missing)) [
-  | inl same ↦ rw same refl
-  | inr else ↦ rw else (passes key title (count n) behind other)
+-- what stands under a key, place by place
+abbrev pub found_in : List ℕ → List Part → Option Data
+found_in key [] = None
+found_in key (always title d ∷ ps) =
+    match_ordering (slice_cmp nat_cmp key title) (found_in key ps) (Some d) (found_in key ps)
+found_in key (unless missing title n ∷ ps) =
+    match_ordering (slice_cmp nat_cmp key title) (found_in key ps)
+    (if n == missing then found_in key ps else Some (count n)) (found_in key ps)
+
+all_alike : (o : Ordering) (x : Option Data) → match_ordering o x x x ≡ x
+all_alike Less x = refl
+all_alike Equal x = refl
+all_alike Greater x = refl
+
+found-laid : (key : List ℕ) (ps : List Part) → get_member key (laid ps) ≡ found_in key ps
+found-laid key [] = refl
+found-laid key (always title d ∷ ps) =
+    ap (λ found. match_ordering (slice_cmp nat_cmp key title) found (Some d) found) (found-laid key ps)
+found-laid key (unless missing title n ∷ ps) = elim (cases_Bool (n == missing)) [
+  | inl same ↦
+      rw same (found-laid key ps ∙ sym (all_alike (slice_cmp nat_cmp key title) (found_in key ps)))
+  | inr other ↦
+      rw other (ap (λ found. match_ordering (slice_cmp nat_cmp key title) found (Some (count n)) found)
+      (found-laid key ps))
 ]
 
--- and found, or not, as if it were alone, where its key does not stand behind it
-found_alone : (key : List ℕ) (missing n : ℕ) (behind : Members) → get_member key behind ≡ None
-    → get_member key (optional_member missing key n behind) ≡ get_member key (optional_member missing key n no_members)
-found_alone key missing n behind none = elim (cases_Bool (n == missing)) [
-  | inl same ↦ rw same none
-  | inr else ↦ rw else (rw none refl)
-]
+-- the first key is above the second
+abbrev is_above : List ℕ → List ℕ → Bool
+is_above key title = match_ordering (slice_cmp nat_cmp key title) false false true
+
+-- the titles of all these are above a key
+abbrev all_above : List ℕ → List Part → Bool
+all_above key [] = true
+all_above key (p ∷ ps) = is_above (title_of p) key && all_above key ps
+
+-- each title is below those behind it
+abbrev in_turn : List Part → Bool
+in_turn [] = true
+in_turn (p ∷ ps) = all_above (title_of p) ps && in_turn ps
+
+-- a key is above those of members, and so are titles
+abbrev tops : List ℕ → Members → Bool
+tops key no_members = true
+tops key (member k d ms) = is_above key k && tops key ms
+
+abbrev all_top : List Part → Members → Bool
+all_top [] ms = true
+all_top (p ∷ ps) ms = tops (title_of p) ms && all_top ps ms
 
 -- members, and others behind them
-abbrev chain : List (List ℕ × Data) → Members → Members
-chain [] behind = behind
-chain (m ∷ ms) behind = member m.0 m.1 (chain ms behind)
+abbrev joined : Members → Members → Members
+joined no_members behind = behind
+joined (member k d ms) behind = member k d (joined ms behind)
 
--- what is the same behind them is the same with them
-same_behind : (key : List ℕ) (ms : List (List ℕ × Data)) (x y : Members) → get_member key x ≡ get_member key y
-    → get_member key (chain ms x) ≡ get_member key (chain ms y)
-same_behind key [] x y same = same
-same_behind key (m ∷ ms) x y same =
-    ap (λ found. match_ordering (slice_cmp nat_cmp key m.0) found (Some m.1) found) (same_behind key ms x y same)
+joined-nothing : (ms : Members) → joined ms no_members ≡ ms
+joined-nothing no_members = refl
+joined-nothing (member k d ms) = ap (member k d) (joined-nothing ms)
 
--- the members that always stand, whatever the bursts are: those before the most flows, before the overhead, and behind
--- the most periodic grants
-unfoldable pub first_members : Config → List (List ℕ × Data)
-first_members c =
-    (codes "calls", count c.calls) ∷ (codes "channel", count c.channel) ∷ (codes "cycle", count c.cycle)
-    ∷ (codes "data_end", count c.data_end) ∷ (codes "data_start", count c.data_start) ∷ []
-
-unfoldable pub middle_members : Config → List (List ℕ × Data)
-middle_members c =
-    (codes "frame", count c.frame) ∷ (codes "grant_cap", count c.grant_cap) ∷ (codes "lead", count c.lead) ∷ []
-
-unfoldable pub last_members : Config → List (List ℕ × Data)
-last_members c =
-    (codes "phy", count c.phy) ∷ (codes "poll_slots", count c.poll_slots) ∷ (codes "quantum", count c.quantum)
-    ∷ (codes "ranging_end", count c.ranging_end) ∷ (codes "ranging_start", count c.ranging_start)
-    ∷ (codes "receivers", count c.receivers) ∷ (codes "req_slots", count c.req_slots)
-    ∷ (codes "short_max", count c.short_max) ∷ (codes "start", count c.start) ∷ (codes "ticks", count c.ticks)
-    ∷ (codes "ucd_count", count c.ucd_count) ∷ []
-
-abbrev pub standing : Config → Members
-standing c = chain (first_members c) (chain (middle_members c) (chain (last_members c) no_members))
-
--- the bursts before the others, and the overhead between them
-abbrev opened : Bursts → Members → Members
-opened (Uniform bytes overhead) behind = member (codes "bytes_per_slot") (count bytes) behind
-opened (Described d) behind = member (codes "bursts") (descriptors_data d) behind
-
-abbrev spent : Bursts → Members → Members
-spent (Uniform bytes overhead) behind = member (codes "overhead") (count overhead) behind
-spent (Described d) behind = behind
-
--- the members by their places
-laid_out : (c : Config) (b : Bursts) → members_with c b ≡ opened b (chain (first_members c) (
-    optional_member 64 (codes "flows") c.flows (chain (middle_members c) (spent b (
-    optional_member 64 (codes "pending") c.pending (optional_member 40 (codes "periodic") c.periodic (
-    chain (last_members c) no_members)))))))
-unfolding first_members middle_members last_members
-laid_out c (Uniform bytes overhead) = refl
-laid_out c (Described d) = refl
-
-passes_bursts : (key : List ℕ) (b : Bursts) (behind : Members) → are_others key (codes "bytes_per_slot") ≡ true
-    → are_others key (codes "bursts") ≡ true → get_member key (opened b behind) ≡ get_member key behind
-passes_bursts key (Uniform bytes overhead) behind other else = passes key (codes "bytes_per_slot") _ behind other
-passes_bursts key (Described d) behind other else = passes key (codes "bursts") _ behind else
-
-passes_overhead : (key : List ℕ) (b : Bursts) (behind : Members) → are_others key (codes "overhead") ≡ true
-    → get_member key (spent b behind) ≡ get_member key behind
-passes_overhead key (Uniform bytes overhead) behind other = passes key (codes "overhead") _ behind other
-passes_overhead key (Described d) behind other = refl
-
--- the key is that of a member that always stands, if it is one of a configuration
-abbrev pub always_stands : List ℕ → Bool
-always_stands key = are_others key (codes "bytes_per_slot") && (are_others key (codes "bursts") && (
-    are_others key (codes "flows") && (are_others key (codes "overhead") && (
-    are_others key (codes "pending") && are_others key (codes "periodic")))))
+joined-joined : (xs ys zs : Members) → joined (joined xs ys) zs ≡ joined xs (joined ys zs)
+joined-joined no_members ys zs = refl
+joined-joined (member k d xs) ys zs = ap (member k d) (joined-joined xs ys zs)
 
 both : (a b : Bool) → (a && b) ≡ true → (a ≡ true) × (b ≡ true)
 both true b is = (refl, is)
 both false b is = absurd cc
 
--- under such a key a configuration has what stands there among these
-pub found_there : (c : Config) (b : Bursts) (key : List ℕ) → always_stands key ≡ true
-    → get_member key (members_with c b) ≡ get_member key (standing c)
-found_there c b key stands =
-    let bytes = both _ _ stands in
-    let bursts = both _ _ bytes.1 in
-    let flows = both _ _ bursts.1 in
-    let overhead = both _ _ flows.1 in
-    let pending = both _ _ overhead.1 in
-    let last = chain (last_members c) no_members in
-    let periodic_behind = optional_member 40 (codes "periodic") c.periodic last in
-    let pending_behind = optional_member 64 (codes "pending") c.pending periodic_behind in
-    let behind = chain (middle_members c) (spent b pending_behind) in
-    let flows_behind = optional_member 64 (codes "flows") c.flows behind in
-    ap (get_member key) (laid_out c b)
-    ∙ passes_bursts key b (chain (first_members c) flows_behind) bytes.0 bursts.0
-    ∙ same_behind key (first_members c) flows_behind (chain (middle_members c) last) (
-    passes_optional key (codes "flows") 64 c.flows behind flows.0
-    ∙ same_behind key (middle_members c) (spent b pending_behind) last (
-    passes_overhead key b pending_behind overhead.0
-    ∙ passes_optional key (codes "pending") 64 c.pending periodic_behind pending.0
-    ∙ passes_optional key (codes "periodic") 40 c.periodic last pending.1))
+both_are : (a b : Bool) → a ≡ true → b ≡ true → (a && b) ≡ true
+both_are true b first second = second
+both_are false b first second = absurd cc
 
--- a limit is found under its key as if it were alone
-pub flows_alone : (c : Config) (b : Bursts) → get_member (codes "flows") (members_with c b)
-    ≡ get_member (codes "flows") (optional_member 64 (codes "flows") c.flows no_members)
-flows_alone c (Uniform bytes overhead) = found_alone (codes "flows") 64 c.flows _ (
-    passes_optional (codes "flows") (codes "pending") 64 c.pending _ refl
-    ∙ passes_optional (codes "flows") (codes "periodic") 40 c.periodic _ refl)
-flows_alone c (Described d) = found_alone (codes "flows") 64 c.flows _ (
-    passes_optional (codes "flows") (codes "pending") 64 c.pending _ refl
-    ∙ passes_optional (codes "flows") (codes "periodic") 40 c.periodic _ refl)
+the_last : (o : Ordering) (x y z : Members) → match_ordering o false false true ≡ true → match_ordering o x y z ≡ z
+the_last Less x y z above = absurd cc
+the_last Equal x y z above = absurd cc
+the_last Greater x y z above = refl
 
--- and so are the others
-pub pending_alone : (c : Config) (b : Bursts) → get_member (codes "pending") (members_with c b)
-    ≡ get_member (codes "pending") (optional_member 64 (codes "pending") c.pending no_members)
-pending_alone c (Uniform bytes overhead) =
-    passes_optional (codes "pending") (codes "flows") 64 c.flows _ refl
-    ∙ found_alone (codes "pending") 64 c.pending _ (
-    passes_optional (codes "pending") (codes "periodic") 40 c.periodic _ refl)
-pending_alone c (Described d) =
-    passes_optional (codes "pending") (codes "flows") 64 c.flows _ refl
-    ∙ found_alone (codes "pending") 64 c.pending _ (
-    passes_optional (codes "pending") (codes "periodic") 40 c.periodic _ refl)
+-- what is put under a key above all others stands behind them
+put_behind : (key : List ℕ) (d : Data) (ms : Members) → tops key ms ≡ true
+    → put key d ms ≡ joined ms (member key d no_members)
+put_behind key d no_members above = refl
+put_behind key d (member k e ms) above =
+    let each = both _ _ above in
+    the_last (slice_cmp nat_cmp key k) _ _ _ each.0 ∙ ap (member k e) (put_behind key d ms each.1)
 
--- the last one too
-pub periodic_alone : (c : Config) (b : Bursts) → get_member (codes "periodic") (members_with c b)
-    ≡ get_member (codes "periodic") (optional_member 40 (codes "periodic") c.periodic no_members)
-periodic_alone c (Uniform bytes overhead) =
-    passes_optional (codes "periodic") (codes "flows") 64 c.flows _ refl
-    ∙ passes_optional (codes "periodic") (codes "pending") 64 c.pending _ refl
-    ∙ found_alone (codes "periodic") 40 c.periodic _ refl
-periodic_alone c (Described d) =
-    passes_optional (codes "periodic") (codes "flows") 64 c.flows _ refl
-    ∙ passes_optional (codes "periodic") (codes "pending") 64 c.pending _ refl
-    ∙ found_alone (codes "periodic") 40 c.periodic _ refl
+tops-joined : (key k : List ℕ) (d : Data) (ms : Members) → tops key ms ≡ true → is_above key k ≡ true
+    → tops key (joined ms (member k d no_members)) ≡ true
+tops-joined key k d no_members above last = both_are _ _ last refl
+tops-joined key k d (member l e ms) above last =
+    let each = both _ _ above in
+    both_are _ _ each.0 (tops-joined key k d ms each.1 last)
+
+all_top-joined : (ps : List Part) (k : List ℕ) (d : Data) (ms : Members) → all_top ps ms ≡ true
+    → all_above k ps ≡ true → all_top ps (joined ms (member k d no_members)) ≡ true
+all_top-joined [] k d ms top above = refl
+all_top-joined (p ∷ ps) k d ms top above =
+    let tops_them = both _ _ top in
+    let is_higher = both _ _ above in
+    both_are _ _ (tops-joined (title_of p) k d ms tops_them.0 is_higher.0)
+    (all_top-joined ps k d ms tops_them.1 is_higher.1)
+
+one_more : (key : List ℕ) (d : Data) (ps : List Part) (ms : Members) → tops key ms ≡ true
+    → put_each (laid ps) (joined ms (member key d no_members))
+    ≡ joined (joined ms (member key d no_members)) (laid ps)
+    → put_each (member key d (laid ps)) ms ≡ joined ms (member key d (laid ps))
+one_more key d ps ms top rest =
+    ap (put_each (laid ps)) (put_behind key d ms top) ∙ rest ∙ joined-joined ms (member key d no_members) (laid ps)
+
+put-laid : (ps : List Part) (ms : Members) → all_top ps ms ≡ true → in_turn ps ≡ true
+    → put_each (laid ps) ms ≡ joined ms (laid ps)
+put-laid [] ms top turn = sym (joined-nothing ms)
+put-laid (always title d ∷ ps) ms top turn =
+    let tops_them = both _ _ top in
+    let turns = both _ _ turn in
+    one_more title d ps ms tops_them.0
+    (put-laid ps _ (all_top-joined ps title d ms tops_them.1 turns.0) turns.1)
+put-laid (unless missing title n ∷ ps) ms top turn =
+    let tops_them = both _ _ top in
+    let turns = both _ _ turn in
+    elim (cases_Bool (n == missing)) [
+      | inl same ↦ rw same (put-laid ps ms tops_them.1 turns.1)
+      | inr other ↦
+          rw other (one_more title (count n) ps ms tops_them.0
+          (put-laid ps _ (all_top-joined ps title (count n) ms tops_them.1 turns.0) turns.1))
+    ]
+
+all_top-nothing : (ps : List Part) → all_top ps no_members ≡ true
+all_top-nothing [] = refl
+all_top-nothing (p ∷ ps) = all_top-nothing ps
+
+-- so members in turn are in order, whichever are left out
+sorted : (ps : List Part) → in_turn ps ≡ true → put_each (laid ps) no_members ≡ laid ps
+sorted ps turn = put-laid ps no_members (all_top-nothing ps) turn
+
+-- the places of a configuration
+abbrev front_parts : Config → List Part → List Part
+front_parts c behind =
+    always (codes "calls") (count c.calls) ∷ always (codes "channel") (count c.channel)
+    ∷ always (codes "cycle") (count c.cycle) ∷ always (codes "data_end") (count c.data_end)
+    ∷ always (codes "data_start") (count c.data_start) ∷ unless 64 (codes "flows") c.flows
+    ∷ always (codes "frame") (count c.frame) ∷ always (codes "grant_cap") (count c.grant_cap)
+    ∷ always (codes "lead") (count c.lead) ∷ unless 0 (codes "open_idle") c.open_idle ∷ behind
+
+abbrev back_parts : Config → List Part
+back_parts c =
+    unless 64 (codes "pending") c.pending ∷ unless 40 (codes "periodic") c.periodic
+    ∷ always (codes "phy") (count c.phy) ∷ always (codes "poll_slots") (count c.poll_slots)
+    ∷ always (codes "quantum") (count c.quantum) ∷ always (codes "ranging_end") (count c.ranging_end)
+    ∷ always (codes "ranging_start") (count c.ranging_start) ∷ always (codes "receivers") (count c.receivers)
+    ∷ always (codes "req_slots") (count c.req_slots) ∷ unless 0 (codes "settle") c.settle
+    ∷ always (codes "short_max") (count c.short_max) ∷ always (codes "start") (count c.start)
+    ∷ always (codes "ticks") (count c.ticks) ∷ always (codes "ucd_count") (count c.ucd_count) ∷ []
+
+abbrev pub parts : Config → Bursts → List Part
+parts c (Uniform bytes overhead) = always (codes "bytes_per_slot") (count bytes)
+    ∷ front_parts c (always (codes "overhead") (count overhead) ∷ back_parts c)
+parts c (Described d) = always (codes "bursts") (descriptors_data d) ∷ front_parts c (back_parts c)
+
+laid-parts : (c : Config) (b : Bursts) → members_with c b ≡ laid (parts c b)
+laid-parts c (Uniform bytes overhead) = refl
+laid-parts c (Described d) = refl
+
+-- the members are in the order of their keys, whichever are left out
+pub in_order : (c : Config) (b : Bursts) → put_each (members_with c b) no_members ≡ members_with c b
+in_order c (Uniform bytes overhead) = sorted (parts c (Uniform bytes overhead)) refl
+in_order c (Described d) = sorted (parts c (Described d)) refl
+
+-- what stands under a key of a configuration
+pub found_there : (c : Config) (b : Bursts) (key : List ℕ)
+    → get_member key (members_with c b) ≡ found_in key (parts c b)
+found_there c b key = ap (get_member key) (laid-parts c b) ∙ found-laid key (parts c b)
+
+-- under a key this stands, whatever the bursts are
+abbrev pub Has : Config → List ℕ → Option Data → Type 0
+Has c key x = ((bytes overhead : ℕ) → found_in key (parts c (Uniform bytes overhead)) ≡ x)
+    × ((d : Descriptors) → found_in key (parts c (Described d)) ≡ x)
+
+-- and it is found there
+pub has : (c : Config) (b : Bursts) (key : List ℕ) (x : Option Data) → Has c key x
+    → get_member key (members_with c b) ≡ x
+has c (Uniform bytes overhead) key x there =
+    found_there c (Uniform bytes overhead) key ∙ there.0 bytes overhead
+has c (Described d) key x there = found_there c (Described d) key ∙ there.1 d

@@ -103,9 +103,11 @@ same_record : (a b : Config) → a.ticks ≡ b.ticks → a.bursts ≡ b.bursts �
     → a.quantum ≡ b.quantum → a.grant_cap ≡ b.grant_cap → a.receivers ≡ b.receivers → a.calls ≡ b.calls
     → a.start ≡ b.start → a.ranging_start ≡ b.ranging_start → a.ranging_end ≡ b.ranging_end
     → a.data_start ≡ b.data_start → a.data_end ≡ b.data_end → a.channel ≡ b.channel → a.ucd_count ≡ b.ucd_count
-    → a.phy ≡ b.phy → a.flows ≡ b.flows → a.pending ≡ b.pending → a.periodic ≡ b.periodic → b ≡ a
+    → a.phy ≡ b.phy → a.flows ≡ b.flows → a.pending ≡ b.pending → a.periodic ≡ b.periodic
+    → a.open_idle ≡ b.open_idle → a.settle ≡ b.settle → b ≡ a
 same_record a b ticks of_bursts frame cycle req_slots poll_slots lead short_max quantum grant_cap receivers calls
-    start ranging_start ranging_end data_start data_end channel ucd_count phy flows pending periodic = search rules
+    start ranging_start ranging_end data_start data_end channel ucd_count phy flows pending periodic open_idle
+    settle = search rules
 
 -- so where no number between the bursts, and none behind them differs
 same_others : (a b : Config) → a.ticks ≡ b.ticks → a.bursts ≡ b.bursts → are_alike (numbers_between a b) ≡ true
@@ -132,9 +134,11 @@ same_others a b ticks of_bursts between behind =
     let flows = number_at a.flows b.flows _ behind in
     let pending = number_at a.pending b.pending _ flows.1 in
     let periodic = number_at a.periodic b.periodic _ pending.1 in
+    let open_idle = number_at a.open_idle b.open_idle _ periodic.1 in
+    let settle = number_at a.settle b.settle _ open_idle.1 in
     same_record a b ticks of_bursts frame.0 cycle.0 req_slots.0 poll_slots.0 lead.0 short_max.0 quantum.0
     grant_cap.0 receivers.0 calls.0 start.0 ranging_start.0 ranging_end.0 data_start.0 data_end.0 channel.0
-    ucd_count.0 phy.0 flows.0 pending.0 periodic.0
+    ucd_count.0 phy.0 flows.0 pending.0 periodic.0 open_idle.0 settle.0
 
 -- and so are configurations
 pub same_config : (a b : Config) → first_of (differences_of a b) ≡ None → b ≡ a
@@ -214,7 +218,7 @@ none_of_same c =
     same_numbers (((first ++ uniform) ++ numbers_between c c) ++ described) (numbers_behind c c)
     (same_numbers ((first ++ uniform) ++ numbers_between c c) described
     (same_numbers (first ++ uniform) (numbers_between c c) front between) bursts.1)
-    (rw (is_same c.flows, is_same c.pending, is_same c.periodic) refl)
+    (rw (is_same c.flows, is_same c.pending, is_same c.periodic, is_same c.open_idle, is_same c.settle) refl)
 
 -- so where there is one, the configurations differ
 pub differ : (a b : Config) (r : Option Difference) → r ≡ first_of (differences_of a b) → IfSome r (λ d. b ≢ a)

@@ -70,7 +70,8 @@ numbers_between a b = numbers field.Frame a.frame b.frame ∷ numbers field.Cycl
 -- the fields behind the bursts
 abbrev pub numbers_behind : Config → Config → List Difference
 numbers_behind a b = numbers field.Flows a.flows b.flows ∷ numbers field.Pending a.pending b.pending
-    ∷ numbers field.Periodic a.periodic b.periodic ∷ []
+    ∷ numbers field.Periodic a.periodic b.periodic ∷ numbers field.OpenIdle a.open_idle b.open_idle
+    ∷ numbers field.Settle a.settle b.settle ∷ []
 
 -- the fields of a journal's configuration and of one that is handed in
 abbrev pub differences_of : Config → Config → List Difference

@@ -5,7 +5,7 @@ use Rattle.live_command.specs.declared.field.Field.TheVariants.{Ticks, BytesPerS
 use Rattle.live_command.specs.declared.field.Field.TheVariants.{PollSlots, Lead, ShortMax, Quantum, GrantCap, Receivers}
 use Rattle.live_command.specs.declared.field.Field.TheVariants.{Calls, Start, RangingStart, RangingEnd, DataStart}
 use Rattle.live_command.specs.declared.field.Field.TheVariants.{DataEnd, Channel, UcdCount, Phy, Bursts, Symbols}
-use Rattle.live_command.specs.declared.field.Field.TheVariants.{Profile, Flows, Pending, Periodic}
+use Rattle.live_command.specs.declared.field.Field.TheVariants.{Profile, Flows, Pending, Periodic, OpenIdle, Settle}
 use Rattle.live_command.specs.declared.field.Member.{Member}
 use Rattle.live_command.specs.declared.field.Member.TheVariants.{Preamble, Guard, Bits, Parity, Information, Shortened}
 use Rattle.live_command.specs.declared.field.Usage.{Usage}
@@ -55,3 +55,5 @@ field_words (Profile usage member) = codes "bursts"
 field_words Flows = codes "flows"
 field_words Pending = codes "pending"
 field_words Periodic = codes "periodic"
+field_words OpenIdle = codes "open_idle"
+field_words Settle = codes "settle"

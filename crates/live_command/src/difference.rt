@@ -190,6 +190,8 @@ fn first_behind(journal: &Config, given: &Config) -> Option<Difference>
         small(Field::Flows, journal.flows, given.flows),
         small(Field::Pending, journal.pending, given.pending),
         small(Field::Periodic, journal.periodic, given.periodic),
+        bytes(Field::OpenIdle, journal.open_idle, given.open_idle),
+        small(Field::Settle, journal.settle, given.settle),
     ])
 }
 

@@ -87,6 +87,8 @@ pub enum Field {
     Flows,
     Pending,
     Periodic,
+    OpenIdle,
+    Settle,
 }
 
 impl Field {
@@ -121,6 +123,8 @@ impl Field {
             Field::Flows => "flows",
             Field::Pending => "pending",
             Field::Periodic => "periodic",
+            Field::OpenIdle => "open_idle",
+            Field::Settle => "settle",
         }
     }
 }

@@ -1,5 +1,5 @@
--- A draft with the request region alone has the plan of nothing.
-use Rattle.std.proofs.Common.{◌≡◌, ℕ, zero, suc, ◌+◌, ◌≤◌, ◌^◌, Bool, true, false, Some, List, [], ◌∷◌}
+-- A draft with the request region alone has the plan of nothing, and one with a quiet idle alone is quiet.
+use Rattle.std.proofs.Common.{◌≡◌, ℕ, zero, suc, ◌+◌, ◌≤◌, Bool, true, false, Some, List, [], ◌∷◌}
 use Rattle.std.proofs.Common.{length, replicate, refl, sym, ap, ◌∙◌, arith}
 use Rattle.std.specs.List.{AllByRecursion, slice_get}
 use Rattle.minislots.specs.declared.config.Config.{Config}
@@ -10,10 +10,11 @@ use Rattle.flow_book.specs.Flows.{LiveFlow}
 use Rattle.flow_book.specs.Choice.{HasStartedBy}
 use Rattle.periodic.specs.declared.placement.Spot.{Spot}
 use Rattle.map_build.specs.declared.draft.Draft.{Draft}
-use Rattle.map_build.specs.declared.TheConstants.{MAX_WAITING}
 use Rattle.map_build.specs.Plan.{Demand}
+use Rattle.map_build.specs.UsageCodes.{long_iuc}
 use Rattle.map_build.specs.Spots.{IsInFrame, AreInFrame}
 use Rattle.map_build.specs.Draft.{Puts}
+use Rattle.map_build.specs.Begun.{IsBegun, IsQuiet}
 use Rattle.map_build.specs.Walk.{AreTaken, HasPlan}
 use Rattle.map_build.proofs.FlowsAfter.{flows_after-nil, started-later}
 
@@ -24,22 +25,6 @@ begun-taken c (s ∷ spots) offset le each = (
   (λ lt. absurd (omega (arith, each.0.after_requests))),
   begun-taken c spots offset le each.1,
 )
-
--- the flows of a draft, before anything stands in the frame
-pub record IsBegun (c : Config) (flows : List LiveFlow) (start : ℕ) (d : Draft) : Type 0 where
-  pub lawful : IsLawful c
-  pub bounded : start ≤ 2 ^ 61
-  pub config : d.overlay.config ≡ c
-  pub before : d.overlay.before ≡ flows
-  pub flows_are : d.overlay.flows ≡ flows
-  pub starts : d.start ≡ start
-  pub offset : d.offset ≡ 0
-  pub grants : d.grants ≡ 0
-  pub elements : d.elements.items ≡ []
-  pub bytes_of : d.bytes.items ≡ []
-  pub marks : length d.met ≡ MAX_WAITING
-  pub unmarked : (place : ℕ) → slice_get d.met place ≡ Some true → ⊥
-  pub started : AllByRecursion (HasStartedBy start) flows
 
 -- of places that are all unmarked none is marked
 pub none-marked : (n place : ℕ) → slice_get (replicate n false) place ≡ Some true → ⊥
@@ -56,10 +41,11 @@ started-flows early late (f ∷ flows) le all = (
 )
 
 -- with the request region it has the plan of nothing
-pub HasPlan-begun : (c : Config) (d : Demand) (old new : Draft) → IsBegun c d.flows d.start old →
+pub HasPlan-begun : (c : Config) (d : Demand) (old new : Draft) → IsLawful c →
+    IsBegun c d.flows d.start old →
     Puts 16383 REQUEST c.req_slots 0 old new → AreInFrame c d.spots → HasPlan c d [] new
-HasPlan-begun c d old new begun puts are =
-    let bounds : HasBounds c = bounds_of c begun.lawful in
+HasPlan-begun c d old new lawful begun puts are =
+    let bounds : HasBounds c = bounds_of c lawful in
     let same : new.overlay.config ≡ c = ap (λ b. b.config) puts.overlay ∙ begun.config in
     let at : new.offset ≡ c.req_slots = omega (arith, puts.offset, begun.offset) in
     let flows_are : new.overlay.flows ≡ d.flows = ap (λ b. b.flows) puts.overlay ∙ begun.flows_are in
@@ -68,7 +54,7 @@ HasPlan-begun c d old new begun puts are =
       before = ap (λ b. b.before) puts.overlay ∙ begun.before;
       starts = puts.start ∙ begun.starts;
       ready = record {
-        lawful = rw same begun.lawful;
+        lawful = rw same lawful;
         near = omega (arith, puts.start, begun.starts, begun.bounded);
         inside = omega (arith, at, bounds.requests_fit, ap (λ k. k.frame) same);
         marks = ap (λ (met : List Bool). length met) puts.met ∙ begun.marks;
@@ -90,3 +76,19 @@ HasPlan-begun c d old new begun puts are =
       each = tt;
       taken = begun-taken c d.spots new.offset (omega (arith, at)) are.each;
     }
+
+-- with an idle over the whole frame it is quiet
+pub IsQuiet-begun : (c : Config) (flows : List LiveFlow) (start : ℕ) (old new : Draft) → IsLawful c →
+    IsBegun c flows start old →
+    Puts 0 (long_iuc c) c.frame 0 old new → IsQuiet c flows start new
+IsQuiet-begun c flows start old new lawful begun puts = record {
+  lawful = lawful;
+  config = ap (λ b. b.config) puts.overlay ∙ begun.config;
+  before = ap (λ b. b.before) puts.overlay ∙ begun.before;
+  flows_are = ap (λ b. b.flows) puts.overlay ∙ begun.flows_are;
+  starts = puts.start ∙ begun.starts;
+  offset = omega (arith, puts.offset, begun.offset);
+  elements = puts.elements ∙ rw (begun.elements, begun.offset) refl;
+  bytes_of = puts.bytes_of ∙ rw begun.bytes_of refl;
+  unmarked = λ place is. begun.unmarked place (rw puts.met at is);
+}

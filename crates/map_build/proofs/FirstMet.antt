@@ -175,13 +175,13 @@ module _ (c : Config) (d : Demand) where
         (met-cases before plan a each.0 le (cases_lt gap.from (a.offset + a.slots))
         (λ far. met-by-plan (before ++ a ∷ []) plan each.1 far (omega (arith, ap (end_of c) same))))
 
-  module _ (plan : List Allocation) (is : IsPlan c d plan) where
+  module _ (sends : d.settles ≡ false) (plan : List Allocation) (is : IsPlan c d plan) where
     -- of the minislots of an opportunity no spot has one
     free-here : (a : Allocation) (place : ℕ) → Contains plan a → place_of a.purpose ≡ Some place → (s : Spot) →
         Contains d.spots s → (a.offset + a.slots ≤ s.offset) ⊎ (s.offset + s.slots ≤ a.offset)
     free-here a place has at s there =
         let due : Contains plan (allocation_of s) =
-        member-at (λ (t : Spot). Contains plan (allocation_of t)) d.spots s is.due there in
+        member-at (λ (t : Spot). Contains plan (allocation_of t)) d.spots s (is.due sends) there in
         elim (disjoint [] plan is.each a (allocation_of s) has due) [
           | inl same ↦ absurd (none-some
               (sym (spot-no-place s.size s.sid s.offset s.slots)
@@ -235,24 +235,26 @@ module _ (c : Config) (d : Demand) where
     pub first-met : (o : Opportunity) → slice_get d.waiting 0 ≡ Some o → 0 < o.slots → HasGap c d.spots o.slots →
         IsMetIn plan 0
     first-met o waits some gap =
-        met-by-plan o waits some gap [] plan is.each (omega (arith, gap.behind)) (omega (arith, is.whole, gap.within))
+        met-by-plan o waits some gap [] plan is.each (omega (arith, gap.behind))
+        (omega (arith, is.whole sends, gap.within))
 
     -- one that is met has a gap
     pub met-gap : (place : ℕ) (o : Opportunity) → slice_get d.waiting place ≡ Some o → IsMetIn plan place →
         HasGap c d.spots o.slots
     met-gap place o waits met = gap-by-plan [] plan is.each place o waits met (λ b has. has)
 
--- of a lawful frame the first opportunity that waits is met exactly where there is a gap for it
-pub meets-first : (c : Config) (d : Demand) (plan : List Allocation) (met : List Bool) → MayWait d.waiting →
-    IsPlan c d plan → AreMet plan met → MeetsFirst c d.spots d.waiting met
-meets-first c d plan met may is marks = record {
+-- of a lawful frame in which modems may send the first opportunity that waits is met exactly where there is a gap for it
+pub meets-first : (c : Config) (d : Demand) (plan : List Allocation) (met : List Bool) → d.settles ≡ false →
+    MayWait d.waiting → IsPlan c d plan → AreMet plan met → MeetsFirst c d.spots d.waiting met
+meets-first c d plan met sends may is marks = record {
   meets = λ o waits gap.
-      marks.all 0 (first-met c d plan is o waits (waiting-some d.waiting 0 o may.some_slots waits) gap);
-  only = λ o waits marked. met-gap c d plan is 0 o waits (marks.each 0 marked);
+      marks.all 0 (first-met c d sends plan is o waits (waiting-some d.waiting 0 o may.some_slots waits) gap);
+  only = λ o waits marked. met-gap c d sends plan is 0 o waits (marks.each 0 marked);
 }
 
 -- so where the making of a frame comes to an end
 pub meets-first-ok : {E : Type 0} (c : Config) (d : Demand) (header : Header) (ack : ℕ) (r : Result PlannedFrame E) →
-    MayWait d.waiting → IfOk r (IsLawfulFrame c d header ack) → IfOk r (λ p. MeetsFirst c d.spots d.waiting p.met)
-meets-first-ok c d header ack r may lawful =
-    IfOk-weaker r _ _ (λ p is. meets-first c d is.plan p.met may is.is_plan is.met) lawful
+    d.settles ≡ false → MayWait d.waiting → IfOk r (IsLawfulFrame c d header ack) →
+    IfOk r (λ p. MeetsFirst c d.spots d.waiting p.met)
+meets-first-ok c d header ack r sends may lawful =
+    IfOk-weaker r _ _ (λ p is. meets-first c d is.plan p.met sends may is.is_plan is.met) lawful

@@ -35,8 +35,9 @@ IsLawfulMap-idle c header start ack room = (
       },
       tt,
     );
-    whole = omega arith;
-    due = tt;
+    whole = λ _. omega arith;
+    due = λ _. tt;
+    quiet = λ on. absurd (cc);
   },
   refl,
 )

@@ -5,7 +5,9 @@ pub mod Clear
 pub mod Counts
 pub mod EachAfterLaws
 pub mod FirstMet
+pub mod FirstPlaces
 pub mod FlowsAfter
+pub mod FullGrants
 pub mod IdleFrame
 pub mod NextGrants
 pub mod Left
@@ -15,9 +17,11 @@ pub mod Pendings
 pub mod Planned
 pub mod Plans
 pub mod Profile
+pub mod Reading
 pub mod RowsCeiling
 pub mod RowsContention
 pub mod RowsFirstGrant
+pub mod RowsIdles
 pub mod RowsMaps
 pub mod RowsOffers
 pub mod RowsPoll
@@ -25,6 +29,7 @@ pub mod RowsTurns
 pub mod RowsUnlawful
 pub mod RowsUnsolicited
 pub mod SameSpots
+pub mod QuietFrame
 pub mod Standings
 pub mod Stops
 pub mod Takings

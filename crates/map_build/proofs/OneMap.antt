@@ -1,5 +1,5 @@
 -- The lawful MAP for what a frame has to serve is one: by class, and in each class there is one.
-use Rattle.std.proofs.Common.{◌≡◌, ℕ, zero, suc, ◌+◌, ◌<◌, ◌≤◌, true, ◌&&◌, ◌||◌, List, [], ◌∷◌, ◌++◌}
+use Rattle.std.proofs.Common.{◌≡◌, ℕ, zero, suc, ◌+◌, ◌<◌, ◌≤◌, Bool, true, false, ◌&&◌, ◌||◌, List, [], ◌∷◌, ◌++◌}
 use Rattle.std.proofs.Common.{length, Option, None, Some, refl, sym, ap, subst, ◌∙◌, inl, inr, append_assoc, arith}
 use Rattle.std.specs.Prelude.{nat_lt, nat_le, ◌==◌, min, slice_index_or, Contains}
 use Rattle.std.specs.List.{AllByRecursion, slice_get}
@@ -216,9 +216,14 @@ module _ (c : Config) (d : Demand) (bursts : HasBursts c.bursts) (apart : BeginA
       (rw append_assoc (rw one at e')) in
       cc
 
+  plans-agree : (quiet : Bool) → d.settles ≡ quiet → (plan plan' : List Allocation) → IsPlan c d plan →
+      IsPlan c d plan' → plan ≡ plan'
+  plans-agree true on plan plan' p q = p.quiet on ∙ sym (q.quiet on)
+  plans-agree false on plan plan' p q = same_rest [] plan plan' p.each q.each (p.whole on) (q.whole on)
+
   -- the plan of a frame is one
   pub one_plan : (plan plan' : List Allocation) → IsPlan c d plan → IsPlan c d plan' → plan ≡ plan'
-  one_plan plan plan' p q = same_rest [] plan plan' p.each q.each p.whole q.whole
+  one_plan plan plan' p q = plans-agree d.settles refl plan plan' p q
 
   -- the lawful MAP is one
   pub one_map : (header : Header) (ack : ℕ) (m n : FrameMap) → IsLawfulMap c d header ack m →

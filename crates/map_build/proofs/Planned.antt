@@ -1,6 +1,6 @@
 -- The MAP of a draft that is filled and ended is lawful, and a lawful MAP is well formed.
-use Rattle.std.proofs.Common.{◌≡◌, ℕ, ◌<◌, ◌≤◌, List, [], ◌∷◌, map, filter, length, Contains, refl, sym}
-use Rattle.std.proofs.Common.{ap, subst, ◌∙◌, arith}
+use Rattle.std.proofs.Common.{◌≡◌, ℕ, ◌<◌, ◌≤◌, Bool, true, false, List, [], ◌∷◌, map, filter, length, Contains}
+use Rattle.std.proofs.Common.{refl, sym, ap, subst, ◌∙◌, arith}
 use Rattle.std.specs.List.{AllByRecursion}
 use Rattle.std.proofs.lemmas.List.{length-append, length-map}
 use Rattle.std.proofs.lemmas.List.Sums.{length-filter}
@@ -21,7 +21,7 @@ use Rattle.sched_calls.specs.declared.opportunity.Header.{Header}
 use Rattle.sched_calls.specs.declared.opportunity.Opportunity.{Opportunity}
 use Rattle.map_build.specs.declared.purpose.Allocation.{Allocation}
 use Rattle.map_build.specs.Purpose.{element_of, allocation_of}
-use Rattle.map_build.specs.Opportunities.{HaveStationSids}
+use Rattle.map_build.specs.Opportunities.{HaveElementSids}
 use Rattle.map_build.specs.Plan.{Demand, demand_at, end_of, flows_after, IsPlan}
 use Rattle.map_build.specs.FrameMap.{null_element, pending_of, pending, elements_of, bytes_of_plan, map_with}
 use Rattle.map_build.specs.FrameMap.{AreMet, IsLawfulMap, IsLawfulFrame}
@@ -42,22 +42,24 @@ all-taken c [] plan offset end each taken = tt
 all-taken c (s ∷ spots) plan offset end each taken =
     (taken.0 (omega (arith, each.0.some_slots, each.0.within)), all-taken c spots plan offset end each.1 taken.1)
 
-module _ (c : Config) (d : Demand) (plan : List Allocation) (filled ended : Draft) (are : AreInFrame c d.spots)
-    (has : HasPlan c d plan filled) (full : filled.offset ≡ c.frame) (ends : Ends filled ended) where
+module _ (c : Config) (d : Demand) (sends : d.settles ≡ false) (plan : List Allocation) (filled ended : Draft)
+    (are : AreInFrame c d.spots) (has : HasPlan c d plan filled) (full : filled.offset ≡ c.frame)
+    (ends : Ends filled ended) where
   plan-is : IsPlan c d plan
   plan-is = record {
     each = has.each;
-    whole = omega (arith, full, has.after.ends, ap (λ k. end_of k plan) has.config);
-    due = all-taken c d.spots plan filled.offset full are.each has.taken;
+    whole = λ _. omega (arith, full, has.after.ends, ap (λ k. end_of k plan) has.config);
+    due = λ _. all-taken c d.spots plan filled.offset full are.each has.taken;
+    quiet = λ on. absurd (cc);
   }
 
   flows-are : filled.overlay.flows ≡ flows_after d.start plan d.flows
   flows-are = has.after.flows_now ∙ ap (λ s. flows_after s plan d.flows) has.starts
 
-  elements-are : ended.elements.items ≡ elements_of c d.flows d.start plan
-  elements-are = ends.elements ∙ rw (has.config, flows-are, has.elements) refl
+  elements-are : ended.elements.items ≡ elements_of c d plan
+  elements-are = ends.elements ∙ rw (has.config, flows-are, has.elements, sends) refl
 
-  bytes-are : ended.bytes.items ≡ bytes_of_plan c d.flows d.start plan
+  bytes-are : ended.bytes.items ≡ bytes_of_plan c d plan
   bytes-are = ends.bytes_of ∙ rw (has.config, flows-are, has.bytes_of) refl
 
   -- the MAP of the draft is the lawful one, its book has the data grants, and its marks are those of the plan
@@ -79,13 +81,15 @@ pub begun-flows : (c : Config) (d : Demand) (draft : Draft) → HasPlan c d [] d
 begun-flows c d draft has = has.after.flows_now ∙ flows_after-nil draft.start d.flows
 
 -- so it has the plan of nothing for its own
-pub begun-here : (c : Config) (d : Demand) (draft : Draft) → HasPlan c d [] draft →
+pub begun-here : (c : Config) (d : Demand) (draft : Draft) → d.settles ≡ false → HasPlan c d [] draft →
     HasPlan draft.overlay.config (demand_at draft.overlay.flows d.spots d.waiting draft.start) [] draft
-begun-here c d draft has =
-    subst (λ s. HasPlan draft.overlay.config (demand_at draft.overlay.flows d.spots d.waiting s) [] draft) (sym has.starts)
+begun-here c d draft sends has =
+    subst (λ s. HasPlan draft.overlay.config (demand_at draft.overlay.flows d.spots d.waiting s) [] draft)
+    (sym has.starts)
     (subst (λ fs. HasPlan draft.overlay.config (demand_at fs d.spots d.waiting d.start) [] draft)
     (sym (begun-flows c d draft has))
-    (subst (λ k. HasPlan k d [] draft) (sym has.config) has))
+    (subst (λ b. HasPlan draft.overlay.config (record d { settles = b }) [] draft) sends
+    (subst (λ k. HasPlan k d [] draft) (sym has.config) has)))
 
 -- a frame that is filled ends where the frame does
 pub filled-full : (spots : List Spot) (waiting : List Opportunity) (begun filled : Draft) →
@@ -94,14 +98,15 @@ filled-full spots waiting begun filled is = is.2 ∙ ap (λ k. k.frame) (sym is.
 
 -- a draft that is begun, filled and ended has the lawful MAP, its data grants and its marks
 pub planned : (c : Config) (d : Demand) (header : Header) (progress ack : ℕ) (begun filled ended : Draft)
-    (p : PlannedFrame) →
+    (p : PlannedFrame) → d.settles ≡ false →
     AreInFrame c d.spots → HasPlan c d [] begun → IsFilled d.spots d.waiting begun filled → Ends filled ended →
     ack ≡ ack_of filled.overlay.config.pending progress filled.overlay.flows →
     p.map ≡ map_with ended.overlay.config header ended.start ack ended.elements.items ended.bytes.items →
     p.overlay ≡ ended.overlay → p.met ≡ ended.met → IsLawfulFrame c d header progress p
-planned c d header progress ack begun filled ended p are has (plan, filling, full) ends held made book marks =
-    lawful-frame c d plan filled ended are
-    (rw (has.config, begun-flows c d begun has, has.starts) at filling) (full ∙ ap (λ k. k.frame) has.config) ends
+planned c d header progress ack begun filled ended p sends are has (plan, filling, full) ends held made book marks =
+    lawful-frame c d sends plan filled ended are
+    (subst (λ b. HasPlan c (record d { settles = b }) plan filled) (sym sends)
+    (rw (has.config, begun-flows c d begun has, has.starts) at filling)) (full ∙ ap (λ k. k.frame) has.config) ends
     header progress ack p held made book marks
 
 -- the MAP of a lawful frame is lawful
@@ -152,7 +157,7 @@ few-pending c flows ascend small =
 -- the elements of a lawful plan are few
 pub few-elements : (c : Config) (d : Demand) (plan : List Allocation) → HasBursts c.bursts → c.pending ≤ 125 →
     length d.spots ≤ 40 → AreOfChannel d.flows → length d.waiting ≤ 16 → IsPlan c d plan →
-    length (elements_of c d.flows d.start plan) ≤ 240
+    length (elements_of c d plan) ≤ 240
 few-elements c d plan bursts pendings places channel few is = omega (
   arith,
   pendings,
@@ -163,16 +168,26 @@ few-elements c d plan bursts pendings places channel few is = omega (
       (small-after d.start plan d.flows channel.sids),
 )
 
+plan-cond : (c : Config) (d : Demand) (plan : List Allocation) (quiet : Bool) → d.settles ≡ quiet →
+    c.req_slots ≤ c.frame → IsPlan c d plan → end_of c plan ≤ c.frame
+plan-cond c d plan true on fits is = rw (is.quiet on) (omega arith)
+plan-cond c d plan false on fits is = omega (arith, is.whole on)
+
+-- a plan is within the frame
+pub plan-within : (c : Config) (d : Demand) (plan : List Allocation) → c.req_slots ≤ c.frame → IsPlan c d plan →
+    end_of c plan ≤ c.frame
+plan-within c d plan = plan-cond c d plan d.settles refl
+
 -- a lawful MAP of flows of a channel is well formed
 pub lawful-encodable : (c : Config) (d : Demand) (header : Header) (ack : ℕ) (m : FrameMap) → IsLawful c →
     AreInFrame c d.spots → length d.waiting ≤ 16 → IsLawfulMap c d header ack m → FitsHeader m.wire →
-    AreOfChannel d.flows → HaveFlowSids d.spots → HaveStationSids d.waiting → IsWellFormed m.wire
+    AreOfChannel d.flows → HaveFlowSids d.spots → HaveElementSids d.waiting → IsWellFormed m.wire
 lawful-encodable c d header ack m lawful are few (plan, is, made) fits channel places stations =
     let bounds : HasBounds c = bounds_of c lawful in
-    let elements : m.wire.elements ≡ elements_of c d.flows d.start plan = ap (λ (n : FrameMap). n.wire.elements) made in
+    let elements : m.wire.elements ≡ elements_of c d plan = ap (λ (n : FrameMap). n.wire.elements) made in
     let good : AreEncodable m.wire.elements = rw elements
     (elements_of-encodable c d plan (omega (arith, bounds.frame_most)) (sids-short d.flows channel.sids)
-    (spot-sids-short d.spots places) stations is.each is.whole) in
+    (spot-sids-short d.spots places) stations is.each (plan-within c d plan (omega (arith, bounds.requests_fit)) is)) in
     record {
       fits = fits;
       count = rw elements (few-elements c d plan bounds.bursts bounds.pending_most are.few channel few is);

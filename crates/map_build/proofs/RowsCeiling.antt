@@ -45,8 +45,9 @@ a_second_grant_fills_the_room = (
       },
       tt,
     );
-    whole = refl;
-    due = tt;
+    whole = λ _. refl;
+    due = λ _. tt;
+    quiet = λ on. absurd (cc);
   },
   refl,
 )
@@ -92,8 +93,9 @@ a_frame_with_a_grant_at_the_ceiling = (
         tt,
       ),
     );
-    whole = refl;
-    due = tt;
+    whole = λ _. refl;
+    due = λ _. tt;
+    quiet = λ on. absurd (cc);
   },
   refl,
 )
@@ -124,8 +126,9 @@ a_frame_that_idles_at_the_ceiling = (
       },
       tt,
     );
-    whole = refl;
-    due = tt;
+    whole = λ _. refl;
+    due = λ _. tt;
+    quiet = λ on. absurd (cc);
   },
   refl,
 )

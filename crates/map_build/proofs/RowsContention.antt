@@ -48,8 +48,9 @@ the_higher_priority_is_served_first = (
       },
       tt,
     );
-    whole = refl;
-    due = tt;
+    whole = λ _. refl;
+    due = λ _. tt;
+    quiet = λ on. absurd (cc);
   },
   refl,
 )
@@ -88,8 +89,9 @@ two_flows_take_turns = (
       },
       tt,
     );
-    whole = refl;
-    due = tt;
+    whole = λ _. refl;
+    due = λ _. tt;
+    quiet = λ on. absurd (cc);
   },
   refl,
 )

@@ -83,8 +83,9 @@ a_first_grant_fills_the_room burst enough = (
       },
       tt,
     );
-    whole = refl;
-    due = tt;
+    whole = λ _. refl;
+    due = λ _. tt;
+    quiet = λ on. absurd (cc);
   },
   refl,
 )
@@ -122,8 +123,9 @@ a_first_grant_of_all_that_was_asked = (
       },
       tt,
     );
-    whole = refl;
-    due = tt;
+    whole = λ _. refl;
+    due = λ _. tt;
+    quiet = λ on. absurd (cc);
   },
   refl,
 )

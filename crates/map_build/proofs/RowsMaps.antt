@@ -43,8 +43,9 @@ a_frame_without_flows = (
       },
       tt,
     );
-    whole = refl;
-    due = tt;
+    whole = λ _. refl;
+    due = λ _. tt;
+    quiet = λ on. absurd (cc);
   }),
   refl,
 )
@@ -127,8 +128,9 @@ a_frame_with_one_grant = (
         tt,
       ),
     );
-    whole = refl;
-    due = tt;
+    whole = λ _. refl;
+    due = λ _. tt;
+    quiet = λ on. absurd (cc);
   }),
   refl,
 )

@@ -5,10 +5,12 @@ use Rattle.std.proofs.Common.{lit<, lit≤, ◌≤◌, ◌<◌, arith}
 use Rattle.map_codec.specs.Element.{word_of, element_at}
 use Rattle.sched_calls.specs.declared.frame_map.FrameMap.{FrameMap}
 use Rattle.sched_calls.specs.declared.opportunity.Opportunity.{Opportunity}
-use Rattle.sched_calls.specs.declared.opportunity.Usage.TheVariants.{Initial, Station}
+use Rattle.sched_calls.specs.declared.opportunity.Usage.{Usage}
+use Rattle.sched_calls.specs.declared.opportunity.Usage.TheVariants.{Initial, InitialTo, Station, Request, Quiet, DataTo}
 use Rattle.map_build.specs.declared.purpose.Allocation.{Allocation}
 use Rattle.map_build.specs.declared.purpose.Purpose.TheVariants.{Poll, Offer, DataGrant, Idle}
 use Rattle.sched_calls.specs.Header.{header_of}
+use Rattle.map_build.specs.Purpose.{element_of}
 use Rattle.map_build.specs.Plan.{demand_at, IsMetIn, NoneToMeet}
 use Rattle.map_build.specs.FrameMap.{IsLawfulMap}
 use Rattle.sched_calls.proofs.Base.{base, the_base_has_bursts}
@@ -81,8 +83,9 @@ a_frame_with_an_opportunity_for_all = (
         tt,
       ),
     );
-    whole = refl;
-    due = tt;
+    whole = λ _. refl;
+    due = λ _. tt;
+    quiet = λ on. absurd (cc);
   },
   refl,
 )
@@ -166,8 +169,9 @@ an_opportunity_that_does_not_fit_holds_up_nothing = (
         ),
       ),
     );
-    whole = refl;
-    due = ((0, lit< tt, refl), tt);
+    whole = λ _. refl;
+    due = λ _. ((0, lit< tt, refl), tt);
+    quiet = λ on. absurd (cc);
   },
   refl,
 )
@@ -260,8 +264,9 @@ an_opportunity_goes_before_data = (
         ),
       ),
     );
-    whole = refl;
-    due = tt;
+    whole = λ _. refl;
+    due = λ _. tt;
+    quiet = λ on. absurd (cc);
   },
   refl,
 )
@@ -279,3 +284,25 @@ a_map_with_data_before_an_opportunity_is_not_lawful lawful =
     let e = one_map base (demand_at (small ∷ []) [] (initial 8 ∷ []) 840) the_base_has_bursts BeginApart-nil (header_of base) 800
     data_first offer_first lawful an_opportunity_goes_before_data in
     omega (arith, ap (λ m. (element_at m.wire.elements 1).sid) e)
+
+-- the element of an opportunity of so many minislots of the base configuration
+abbrev offered : ℕ → Usage → ℕ
+offered slots usage = word_of (element_of base (allocation 4 slots (Offer 0 usage)))
+
+-- a modem, those with some priorities or all modems may request, as in a poll or a request region
+pub the_words_of_request_opportunities : map (λ sid. offered 2 (Request sid)) (9 ∷ 15873 ∷ 16383 ∷ [])
+    ≡ 0x00244004 ∷ 0xf8044004 ∷ 0xfffc4004 ∷ []
+the_words_of_request_opportunities = refl
+
+-- one modem may join
+pub the_word_of_initial_maintenance_of_one_modem : offered 8 (InitialTo 9) ≡ 0x0024c004
+the_word_of_initial_maintenance_of_one_modem = refl
+
+-- a quiet window reads like an idle
+pub the_word_of_a_quiet_window : offered 8 Quiet ≡ 0x00018004
+the_word_of_a_quiet_window = refl
+
+-- a data opportunity is short by the most bytes that it carries, and long where it carries none
+pub the_words_of_data_opportunities : map (λ slots. offered slots (DataTo 9)) (2 ∷ 3 ∷ 8 ∷ 9 ∷ [])
+    ≡ 0x00258004 ∷ 0x00254004 ∷ 0x00254004 ∷ 0x00258004 ∷ []
+the_words_of_data_opportunities = refl

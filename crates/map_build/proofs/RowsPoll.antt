@@ -52,8 +52,9 @@ a_frame_with_a_poll = (
         tt,
       ),
     );
-    whole = refl;
-    due = ((0, lit< tt, refl), tt);
+    whole = λ _. refl;
+    due = λ _. ((0, lit< tt, refl), tt);
+    quiet = λ on. absurd (cc);
   },
   refl,
 )

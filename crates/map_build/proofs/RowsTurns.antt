@@ -82,8 +82,9 @@ the_flow_without_a_grant_is_served = (
       },
       tt,
     );
-    whole = refl;
-    due = tt;
+    whole = λ _. refl;
+    due = λ _. tt;
+    quiet = λ on. absurd (cc);
   },
   refl,
 )
@@ -148,8 +149,9 @@ the_flow_with_the_earlier_grant_is_served = (
         tt,
       ),
     );
-    whole = refl;
-    due = tt;
+    whole = λ _. refl;
+    due = λ _. tt;
+    quiet = λ on. absurd (cc);
   },
   refl,
 )

@@ -67,8 +67,9 @@ a_frame_with_unsolicited_grants = (
         ),
       ),
     );
-    whole = refl;
-    due = ((0, lit< tt, refl), ((1, lit< tt, refl), tt));
+    whole = λ _. refl;
+    due = λ _. ((0, lit< tt, refl), ((1, lit< tt, refl), tt));
+    quiet = λ on. absurd (cc);
   },
   refl,
 )
@@ -110,8 +111,9 @@ a_frame_with_two_grants_of_a_flow = (
         ),
       ),
     );
-    whole = refl;
-    due = ((0, lit< tt, refl), ((1, lit< tt, refl), tt));
+    whole = λ _. refl;
+    due = λ _. ((0, lit< tt, refl), ((1, lit< tt, refl), tt));
+    quiet = λ on. absurd (cc);
   },
   refl,
 )

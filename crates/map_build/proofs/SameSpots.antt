@@ -24,6 +24,8 @@ use Rattle.map_build.specs.Purpose.{Class, Placed, Reserved, Requested, Left, cl
 use Rattle.map_build.specs.Plan.{Demand, demand_at, next_stop, room_at, flows_after, IsFirstToMeet, NoneToMeet}
 use Rattle.map_build.specs.Plan.{NoneOf, IsOfClass, Stands, IsPlan}
 use Rattle.map_build.specs.FrameMap.{IsLawfulMap, IsLawfulFrame}
+use Rattle.map_build.specs.declared.met.Met.{Met}
+use Rattle.map_build.specs.Reading.{met_at, met_over}
 use Rattle.map_build.specs.Spots.{IsInFrame, AreInFrame, HaveFlowSids}
 use Rattle.map_build.proofs.Left.{with_spots, all-weaker}
 use Rattle.map_build.proofs.Standings.{member-at}
@@ -48,6 +50,26 @@ next_stop-among c spots others offset among = elim (next_stop-is c spots offset)
   | inl end ↦ omega (arith, end, next_stop-most c others offset)
   | inr is ↦ omega (arith, is.3, next_stop-spot c others offset is.0 (among is.0 is.1) is.2)
 ]
+
+-- in another order they leave the same room
+room_at-reordered : (c : Config) (spots others : List Spot) (offset : ℕ) → IsPermutation spots others →
+    room_at c spots offset ≡ room_at c others offset
+room_at-reordered c spots others offset moved =
+    omega (
+      arith,
+      next_stop-among c spots others offset (λ s has. Contains-permutation spots others s moved has),
+      next_stop-among c others spots offset
+          (λ s has. Contains-permutation others spots s (IsPermutation-sym spots others moved) has),
+    )
+
+-- so the same is met
+pub met_over-reordered : (c : Config) (spots others : List Spot) (waiting : List Opportunity) (met : List Met)
+    (offsets : List ℕ) → IsPermutation spots others →
+    met_over c spots waiting met offsets ≡ met_over c others waiting met offsets
+met_over-reordered c spots others waiting met [] moved = refl
+met_over-reordered c spots others waiting met (offset ∷ offsets) moved =
+    rw (room_at-reordered c spots others offset moved)
+    (met_over-reordered c spots others waiting (met ++ met_at c others waiting met offset) offsets moved)
 
 module _ (c : Config) (d : Demand) (others : List Spot) (there : AreAmong d.spots others)
     (back : AreAmong others d.spots) where
@@ -102,8 +124,9 @@ module _ (c : Config) (d : Demand) (others : List Spot) (there : AreAmong d.spot
   plan-among plan is = record {
     each = same-each [] plan is.each;
     whole = is.whole;
-    due = all-members (λ (t : Spot). Contains plan (allocation_of t)) others
-        (λ s has. member-at (λ (t : Spot). Contains plan (allocation_of t)) d.spots s is.due (back s has));
+    due = λ sends. all-members (λ (t : Spot). Contains plan (allocation_of t)) others
+        (λ s has. member-at (λ (t : Spot). Contains plan (allocation_of t)) d.spots s (is.due sends) (back s has));
+    quiet = is.quiet;
   }
 
 -- a plan round spots in one order is one in another

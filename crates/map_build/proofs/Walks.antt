@@ -1,5 +1,5 @@
 -- One step of the walk along a frame: what is chosen among the spots that are left is one more of the plan.
-use Rattle.std.proofs.Common.{◌+◌, ◌≤◌, List, [], ◌∷◌, ◌++◌, ap, arith}
+use Rattle.std.proofs.Common.{◌≡◌, ◌+◌, ◌≤◌, false, List, [], ◌∷◌, ◌++◌, sym, ap, subst, arith}
 use Rattle.minislots.specs.declared.config.Config.{Config}
 use Rattle.periodic.specs.declared.placement.Spot.{Spot}
 use Rattle.map_build.specs.declared.draft.Draft.{Draft}
@@ -15,13 +15,14 @@ use Rattle.map_build.proofs.Plans.{HasPlan-push}
 use Rattle.map_build.proofs.Takings.{Takes-put}
 
 module _ (c : Config) (d : Demand) (left : List Spot) (plan : List Allocation) (a : Allocation) (old mid : Draft)
-    (are : AreInFrame c d.spots) (has : HasPlan c d plan old) (ahead : AreLeft c d.spots left old.offset)
-    (chosen : Chooses left d.waiting a old mid) where
+    (sends : d.settles ≡ false) (are : AreInFrame c d.spots) (has : HasPlan c d plan old)
+    (ahead : AreLeft c d.spots left old.offset) (chosen : Chooses left d.waiting a old mid) where
   there : AreLeft c d.spots left a.offset
   there = rw chosen.here ahead
 
   stands : Stands c (with_spots left d) plan a
-  stands = rw (has.config, has.starts) at (chosen.stands d.flows plan has.after)
+  stands = subst (λ b. Stands c (with_spots left (record d { settles = b })) plan a) (sym sends)
+      (rw (has.config, has.starts) at (chosen.stands d.flows plan has.after))
 
   clear : IsClear c left a
   clear = left-clear c (with_spots left d) plan a there.placed

@@ -1,33 +1,33 @@
 -- The MAP of a plan is well formed: its elements are in range, ascend, and have one Null.
 use Rattle.std.proofs.Common.{◌≡◌, ℕ, zero, suc, ◌^◌, ◌<◌, ◌≤◌, Bool, true, false, List, [], ◌∷◌, ◌++◌, map}
 use Rattle.std.proofs.Common.{filter, length, if◌then◌else◌, ◌==◌, Some, refl, subst, ◌∙◌, arith, append_assoc}
-use Rattle.map_codec.specs.declared.element.iuc.TheConstants.{SHORT_DATA_GRANT, LONG_DATA_GRANT}
+use Rattle.map_codec.specs.declared.element.iuc.TheConstants.{REQUEST, SHORT_DATA_GRANT, LONG_DATA_GRANT}
 use Rattle.map_codec.specs.declared.element.iuc.TheConstants.{ADVANCED_SHORT_DATA_GRANT, ADVANCED_LONG_DATA_GRANT}
 use Rattle.map_codec.specs.declared.element.iuc.TheConstants.{ADVANCED_UNSOLICITED_GRANT}
 use Rattle.std.specs.List.{AllByRecursion, Contains, slice_get}
+use Rattle.std.proofs.lemmas.Bool.{cond_both}
 use Rattle.std.proofs.lemmas.List.{append-nil}
 use Rattle.std.proofs.lemmas.List.Sums.{sum_by-cons, sum_by_push, sum_by-append}
 use Rattle.std.proofs.lemmas.List.Elements.{All-contains, All-from_recursion}
 use Rattle.minislots.specs.declared.config.Config.{Config}
-use Rattle.minislots.specs.Units.{is_short}
+use Rattle.minislots.specs.Units.{bytes_in, is_short}
 use Rattle.map_codec.specs.declared.element.Element.{Element}
 use Rattle.map_codec.specs.Element.{IsInRange, is_null, nulls, element_at, Ascends}
 use Rattle.flow_book.specs.Flows.{LiveFlow}
 use Rattle.flow_book.specs.Shown.{is_shown}
-use Rattle.flow_book.proofs.Removal.{all-filter}
+use Rattle.sched_calls.proofs.Removal.{all-filter}
 use Rattle.periodic.specs.declared.placement.Spot.{Spot}
 use Rattle.map_build.specs.EachAfter.{EachAfter}
 use Rattle.sched_calls.specs.declared.opportunity.Opportunity.{Opportunity}
-use Rattle.sched_calls.specs.declared.opportunity.Usage.{Usage}
-use Rattle.sched_calls.specs.declared.opportunity.Usage.TheVariants.{Initial, Station}
+use Rattle.sched_calls.specs.declared.opportunity.Usage.TheVariants.{Initial, InitialTo, Station, Request, Quiet, DataTo}
 use Rattle.map_build.specs.declared.purpose.Allocation.{Allocation}
 use Rattle.map_build.specs.declared.purpose.Purpose.{Purpose}
 use Rattle.map_build.specs.declared.purpose.Purpose.TheVariants.{Poll, UnsolicitedGrant, Offer, DataGrant, Idle}
-use Rattle.map_build.specs.Purpose.{kind_of, element_of, sid_for}
-use Rattle.map_build.specs.Opportunities.{HasStationSid, HaveStationSids}
+use Rattle.map_build.specs.Purpose.{is_open, kind_of, element_of, sid_for}
+use Rattle.map_build.specs.Opportunities.{HaveElementSids}
 use Rattle.map_build.specs.Plan.{Demand, end_of, flows_after, Stands, IsOfClass}
 use Rattle.map_build.specs.UsageCodes.{short_iuc, long_iuc, data_iuc}
-use Rattle.map_build.specs.FrameMap.{pending_of, request_region, null_element, elements_of}
+use Rattle.map_build.specs.FrameMap.{pending_of, request_region, quiet_element, head_of, null_element, elements_of}
 
 -- the offsets do not descend, from this one on
 abbrev pub Climbs : ℕ → List Element → Type 0
@@ -67,14 +67,20 @@ data_iuc-allocates c bytes =
     either (is_short c bytes) (short_iuc c) (long_iuc c) (short_iuc-allocates c) (long_iuc-allocates c)
 
 -- as those of all allocations are
-kind_of-iuc : (c : Config) (purpose : Purpose) → Allocates (kind_of c purpose).iuc
-kind_of-iuc c (Poll sid) = (omega arith, refl)
-kind_of-iuc c (Offer place Initial) = (omega arith, refl)
-kind_of-iuc c (Offer place (Station sid)) = (omega arith, refl)
-kind_of-iuc c (UnsolicitedGrant sid size) =
+kind_of-iuc : (c : Config) (slots : ℕ) (purpose : Purpose) → Allocates (kind_of c slots purpose).iuc
+kind_of-iuc c slots (Poll sid) = (omega arith, refl)
+kind_of-iuc c slots (Offer place Initial) = (omega arith, refl)
+kind_of-iuc c slots (Offer place (InitialTo sid)) = (omega arith, refl)
+kind_of-iuc c slots (Offer place (Station sid)) = (omega arith, refl)
+kind_of-iuc c slots (Offer place (Request sid)) = (omega arith, refl)
+kind_of-iuc c slots (Offer place Quiet) = long_iuc-allocates c
+kind_of-iuc c slots (Offer place (DataTo sid)) = either (bytes_in c slots == 0) (long_iuc c)
+    (data_iuc c (bytes_in c slots)) (long_iuc-allocates c) (data_iuc-allocates c (bytes_in c slots))
+kind_of-iuc c slots (UnsolicitedGrant sid size) =
     either (c.phy == 1) ADVANCED_UNSOLICITED_GRANT (data_iuc c size) (omega arith, refl) (data_iuc-allocates c size)
-kind_of-iuc c (DataGrant sid bytes) = data_iuc-allocates c bytes
-kind_of-iuc c Idle = long_iuc-allocates c
+kind_of-iuc c slots (DataGrant sid bytes) = data_iuc-allocates c bytes
+kind_of-iuc c slots Idle =
+    either (is_open c slots) REQUEST (long_iuc c) (omega arith, refl) (long_iuc-allocates c)
 
 -- no allocation's element is a Null
 nulls-plan : (c : Config) (plan : List Allocation) (rest : List Element) → nulls (map (element_of c) plan ++ rest)
@@ -82,7 +88,7 @@ nulls-plan : (c : Config) (plan : List Allocation) (rest : List Element) → nul
 nulls-plan c [] rest = refl
 nulls-plan c (a ∷ plan) rest =
     sum_by-cons _ (element_of c a) (map (element_of c) plan ++ rest)
-    ∙ (rw (kind_of-iuc c a.purpose).1
+    ∙ (rw (kind_of-iuc c a.slots a.purpose).1
     (omega (arith, nulls-plan c plan rest)))
 
 -- where the offsets of what comes behind the plan do not descend, those of the whole do not
@@ -117,24 +123,20 @@ sids_after : (start : ℕ) (plan : List Allocation) (flows : List LiveFlow) → 
 sids_after start plan [] sids = tt
 sids_after start plan (f ∷ flows) sids = (sids.0, sids_after start plan flows sids.1)
 
--- the SID of an opportunity is in range
-sid_for-short : (usage : Usage) → HasStationSid usage → sid_for usage < 2 ^ 14
-sid_for-short Initial is = omega arith
-sid_for-short (Station sid) is = omega (arith, is.1)
-
-waiting-sid : (waiting : List Opportunity) (place : ℕ) (o : Opportunity) → HaveStationSids waiting →
-    slice_get waiting place ≡ Some o → HasStationSid o.usage
+-- the SID of an opportunity that waits is in range
+waiting-sid : (waiting : List Opportunity) (place : ℕ) (o : Opportunity) → HaveElementSids waiting →
+    slice_get waiting place ≡ Some o → sid_for o.usage < 2 ^ 14
 waiting-sid [] place o all is = absurd (cc)
-waiting-sid (w ∷ waiting) zero o all is = let same : w ≡ o = cc in subst (λ p. HasStationSid p.usage) same all.0
+waiting-sid (w ∷ waiting) zero o all is = let same : w ≡ o = cc in subst (λ p. sid_for p.usage < 2 ^ 14) same all.0
 waiting-sid (w ∷ waiting) (suc place) o all is = waiting-sid waiting place o all.1 is
 
 module _ (c : Config) (d : Demand) (sids : HaveSids d.flows) (places : HaveSpotSids d.spots)
-    (stations : HaveStationSids d.waiting) where
+    (stations : HaveElementSids d.waiting) where
   -- the SID of an allocation's element is in range
   kind_of-sid : (before : List Allocation) (offset slots : ℕ) (purpose : Purpose) →
-      IsOfClass c d before offset slots purpose → (kind_of c purpose).sid < 2 ^ 14
+      IsOfClass c d before offset slots purpose → (kind_of c slots purpose).sid < 2 ^ 14
   kind_of-sid before offset slots (Offer place usage) stands =
-      sid_for-short usage (waiting-sid d.waiting place _ stations stands.may.waits)
+      waiting-sid d.waiting place _ stations stands.may.waits
   kind_of-sid before offset slots (Poll sid) stands =
       All-contains (λ (s : Spot). s.sid < 2 ^ 14) d.spots _ (All-from_recursion _ d.spots places) stands
   kind_of-sid before offset slots (UnsolicitedGrant sid size) stands =
@@ -143,7 +145,8 @@ module _ (c : Config) (d : Demand) (sids : HaveSids d.flows) (places : HaveSpotS
       rw (← stands.2)
       (sid_of_live (flows_after d.start before d.flows) stands.1 (sids_after d.start before d.flows sids)
       stands.3.live)
-  kind_of-sid before offset slots Idle stands = omega arith
+  kind_of-sid before offset slots Idle stands =
+      cond_both (is_open c slots) 16383 0 (λ sid. sid < 2 ^ 14) (λ on. omega arith) (λ on. omega arith)
 
   -- the elements of a plan within the frame are in range
   in_range-plan : (before plan : List Allocation) (rest : List Element) →
@@ -153,7 +156,7 @@ module _ (c : Config) (d : Demand) (sids : HaveSids d.flows) (places : HaveSpotS
   in_range-plan before (a ∷ plan) rest each within ranges = (
     record {
       sid = kind_of-sid before a.offset a.slots a.purpose each.0.purpose;
-      iuc = (kind_of-iuc c a.purpose).0;
+      iuc = (kind_of-iuc c a.slots a.purpose).0;
       offset = omega (
         arith,
         each.0.follows,
@@ -182,6 +185,30 @@ in_range-pending c [] below sids = tt
 in_range-pending c (f ∷ flows) below sids =
     (record { sid = sids.0; iuc = (long_iuc-allocates c).0; offset = below }, in_range-pending c flows below sids.1)
 
+-- an element that may be at the head of a MAP: in range, no Null, at offset 0
+pub record MayLead (e : Element) : Type 0 where
+  pub in_range : IsInRange e
+  pub no_null : is_null e ≡ false
+  pub first : e.offset ≡ 0
+
+quiet-leads : (c : Config) → MayLead (quiet_element c)
+quiet-leads c = record {
+  in_range = record { sid = omega arith; iuc = (long_iuc-allocates c).0; offset = omega arith };
+  no_null = (long_iuc-allocates c).1;
+  first = refl;
+}
+
+region-leads : MayLead request_region
+region-leads = record {
+  in_range = record { sid = omega arith; iuc = omega arith; offset = omega arith };
+  no_null = refl;
+  first = refl;
+}
+
+-- the head of each MAP may be
+head-leads : (c : Config) (d : Demand) → MayLead (head_of c d)
+head-leads c d = cond_both d.settles (quiet_element c) request_region MayLead (λ on. quiet-leads c) (λ on. region-leads)
+
 -- the elements of a MAP with a plan: in range, in order, with one Null
 pub record AreEncodable (es : List Element) : Type 0 where
   pub in_range : AllByRecursion IsInRange es
@@ -190,33 +217,33 @@ pub record AreEncodable (es : List Element) : Type 0 where
 
 -- the elements of the MAP with a plan are
 pub elements_of-encodable : (c : Config) (d : Demand) (plan : List Allocation) → c.frame < 2 ^ 14 →
-    HaveSids d.flows → HaveSpotSids d.spots → HaveStationSids d.waiting →
-    EachAfter (Stands c d) [] plan → end_of c plan ≡ c.frame → AreEncodable (elements_of c d.flows d.start plan)
-elements_of-encodable c d plan below sids places stations each whole =
+    HaveSids d.flows → HaveSpotSids d.spots → HaveElementSids d.waiting →
+    EachAfter (Stands c d) [] plan → end_of c plan ≤ c.frame → AreEncodable (elements_of c d plan)
+elements_of-encodable c d plan below sids places stations each within =
+    let head : MayLead (head_of c d) = head-leads c d in
     let all : List LiveFlow = flows_after d.start plan d.flows in
     let waiting : List LiveFlow = filter (is_shown c.pending all) all in
     let sids_waiting : HaveSids waiting =
     all-filter (λ (g : LiveFlow). g.sid < 2 ^ 14) (is_shown c.pending all) all (sids_after d.start plan d.flows sids) in
     let tail : List Element = null_element c ∷ map (pending_of c) waiting in
     let null_in_range : IsInRange (null_element c) = record { sid = omega arith; iuc = omega arith; offset = below } in
-    let region_in_range : IsInRange request_region =
-    record { sid = omega arith; iuc = omega arith; offset = omega arith } in
     let climbs : Climbs 0 (map (element_of c) plan ++ tail) =
     climbs-plan c d [] plan tail 0 each (omega arith)
-    (λ n low. (omega (arith, low, whole), climbs-pending c waiting c.frame (omega arith))) in
+    (λ n low. (omega (arith, low, within), climbs-pending c waiting c.frame (omega arith))) in
     record {
       in_range = (
-        region_in_range,
-        in_range-plan c d sids places stations [] plan tail each (omega (arith, below, whole))
+        head.in_range,
+        in_range-plan c d sids places stations [] plan tail each (omega (arith, below, within))
             (null_in_range, in_range-pending c waiting below sids_waiting),
       );
-      one_null = sum_by-cons _ request_region (map (element_of c) plan ++ tail)
-          ∙ omega (
+      one_null = sum_by-cons _ (head_of c d) (map (element_of c) plan ++ tail)
+          ∙ (rw head.no_null
+          (omega (
             arith,
             nulls-plan c plan tail,
             sum_by-cons (λ (e : Element). if is_null e then 1 else 0) (null_element c) (map (pending_of c) waiting),
             nulls-pending c waiting,
-          );
-      ascends = λ i within _. Climbs-at 0 (request_region ∷ (map (element_of c) plan ++ tail))
-          (omega arith, climbs) i within;
+          )));
+      ascends = λ i inside _. Climbs-at 0 (head_of c d ∷ (map (element_of c) plan ++ tail))
+          (omega arith, rw head.first climbs) i inside;
     }

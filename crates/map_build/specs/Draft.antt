@@ -2,7 +2,7 @@
 use Rattle.std.specs.Prelude.{◌≡◌, ℕ, ◌+◌, List, [], ◌∷◌, ◌++◌, map}
 use Rattle.map_build.specs.declared.draft.Draft.{Draft}
 use Rattle.map_build.specs.declared.purpose.Allocation.{Allocation}
-use Rattle.map_build.specs.Purpose.{kind_of}
+use Rattle.map_build.specs.Purpose.{element_of, bytes_in}
 use Rattle.map_build.specs.FrameMap.{null_element, pending_to, pending}
 
 -- a draft with an element more at its offset, of so many minislots and bytes
@@ -17,8 +17,8 @@ pub record Puts (sid iuc slots bytes : ℕ) (old new : Draft) : Type 0 where
 
 -- a draft with the element and the bytes of an allocation more, at its offset
 abbrev pub PutsAllocation : Allocation → Draft → Draft → Type 0
-PutsAllocation a old new = Puts (kind_of old.overlay.config a.purpose).sid
-    (kind_of old.overlay.config a.purpose).iuc a.slots (kind_of old.overlay.config a.purpose).bytes old new
+PutsAllocation a old new = Puts (element_of old.overlay.config a).sid (element_of old.overlay.config a).iuc a.slots
+    (bytes_in old.overlay.config a) old new
 
 -- a draft with a pending grant more to each of these SIDs
 pub record PutsPending (sids : List ℕ) (old new : Draft) : Type 0 where

@@ -1,6 +1,5 @@
 -- The lawful MAP of a frame.
-use Rattle.std.specs.Prelude.{◌≡◌, ℕ, Bool, true, List, ◌∷◌, ◌++◌, map, filter}
-use Rattle.std.specs.Prelude.{Some}
+use Rattle.std.specs.Prelude.{◌≡◌, ℕ, Bool, true, List, ◌∷◌, ◌++◌, map, filter, Some, if◌then◌else◌}
 use Rattle.std.specs.List.{slice_get}
 use Rattle.minislots.specs.declared.config.Config.{Config}
 use Rattle.minislots.specs.Units.{wire_of}
@@ -16,9 +15,17 @@ use Rattle.map_build.specs.UsageCodes.{long_iuc}
 use Rattle.map_build.specs.Purpose.{broadcast, element_of, bytes_in}
 use Rattle.map_build.specs.Plan.{Demand, flows_after, IsMetIn, IsPlan}
 
--- the request region, at the head of every MAP
+-- the request region, at the head of the MAP of each frame in which modems may send
 abbrev pub request_region : Element
 request_region = record { sid = broadcast; iuc = REQUEST; offset = 0 }
+
+-- the idle of a MAP in which nobody sends, which is never open
+abbrev pub quiet_element : Config → Element
+quiet_element c = record { sid = 0; iuc = long_iuc c; offset = 0 }
+
+-- the head of the MAP of a frame that has this to serve
+abbrev pub head_of : Config → Demand → Element
+head_of c d = if d.settles then quiet_element c else request_region
 
 -- the end of the allocations
 abbrev pub null_element : Config → Element
@@ -37,14 +44,14 @@ abbrev pub pending : Config → List LiveFlow → List Element
 pending c flows = map (pending_of c) (filter (is_shown c.pending flows) flows)
 
 -- the elements of the MAP with this plan
-abbrev pub elements_of : Config → List LiveFlow → ℕ → List Allocation → List Element
-elements_of c flows start plan =
-    request_region ∷ (map (element_of c) plan ++ null_element c ∷ pending c (flows_after start plan flows))
+abbrev pub elements_of : Config → Demand → List Allocation → List Element
+elements_of c d plan =
+    head_of c d ∷ (map (element_of c) plan ++ null_element c ∷ pending c (flows_after d.start plan d.flows))
 
 -- the byte counts of the MAP with this plan
-abbrev pub bytes_of_plan : Config → List LiveFlow → ℕ → List Allocation → List ℕ
-bytes_of_plan c flows start plan =
-    0 ∷ (map (bytes_in c) plan ++ 0 ∷ map (λ e. 0) (pending c (flows_after start plan flows)))
+abbrev pub bytes_of_plan : Config → Demand → List Allocation → List ℕ
+bytes_of_plan c d plan =
+    0 ∷ (map (bytes_in c) plan ++ 0 ∷ map (λ e. 0) (pending c (flows_after d.start plan d.flows)))
 
 -- the MAP of a frame with this header and these elements and byte counts
 abbrev pub map_with : Config → Header → ℕ → ℕ → List Element → List ℕ → FrameMap
@@ -70,7 +77,7 @@ map_with c header start ack elements bytes = record {
 abbrev pub map_of : Config → Demand → Header → ℕ → List Allocation → FrameMap
 map_of c d header progress plan =
     map_with c header d.start (ack_of c.pending progress (flows_after d.start plan d.flows))
-    (elements_of c d.flows d.start plan) (bytes_of_plan c d.flows d.start plan)
+    (elements_of c d plan) (bytes_of_plan c d plan)
 
 -- The MAP is lawful for a frame that has this to serve, with this header and least progress
 abbrev pub IsLawfulMap : Config → Demand → Header → ℕ → FrameMap → Type 0

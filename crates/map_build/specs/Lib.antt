@@ -16,4 +16,6 @@ pub mod Spots
 pub mod UsageCodes
 pub mod Left
 pub mod Draft
+pub mod Reading
+pub mod Begun
 pub mod Walk

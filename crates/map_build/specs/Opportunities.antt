@@ -1,22 +1,16 @@
 -- The opportunities that wait for a MAP.
-use Rattle.std.specs.Prelude.{◌≡◌, ℕ, ◌+◌, ◌<◌, ◌≤◌, Bool, true, false, List, length, Some}
+use Rattle.std.specs.Prelude.{◌≡◌, ℕ, ◌+◌, ◌^◌, ◌<◌, ◌≤◌, Bool, true, false, List, length, Some}
 use Rattle.std.specs.List.{AllByRecursion, slice_get}
 use Rattle.minislots.specs.declared.config.Config.{Config}
 use Rattle.periodic.specs.declared.placement.Spot.{Spot}
 use Rattle.periodic.specs.Placement.{AreFree}
 use Rattle.map_build.specs.declared.TheConstants.{MAX_WAITING}
 use Rattle.sched_calls.specs.declared.opportunity.Opportunity.{Opportunity}
-use Rattle.sched_calls.specs.declared.opportunity.Usage.{Usage}
-use Rattle.sched_calls.specs.declared.opportunity.Usage.TheVariants.{Initial, Station}
+use Rattle.map_build.specs.Purpose.{sid_for}
 
--- a modem's SID is one that a flow may have
-abbrev pub HasStationSid : Usage → Type 0
-HasStationSid Initial = Unit {0}
-HasStationSid (Station sid) = (1 ≤ sid) × (sid ≤ 8191)
-
--- each is to a modem's SID, or to all
-abbrev pub HaveStationSids : List Opportunity → Type 0
-HaveStationSids waiting = AllByRecursion (λ o. HasStationSid o.usage) waiting
+-- each goes to a SID that an element may have
+abbrev pub HaveElementSids : List Opportunity → Type 0
+HaveElementSids waiting = AllByRecursion (λ o. sid_for o.usage < 2 ^ 14) waiting
 
 -- these opportunities may wait for a MAP: each has some minislots, and they are few
 pub record MayWait (waiting : List Opportunity) : Type 0 where

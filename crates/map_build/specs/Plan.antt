@@ -1,7 +1,8 @@
 -- How a frame is filled behind its request region: polls and unsolicited grants at their places, and in between
 -- opportunities that were reserved, data grants to the flow that is next, or an idle.
-use Rattle.std.specs.Prelude.{◌≡◌, ℕ, ◌+◌, ◌-◌, ◌<◌, ◌≤◌, min, nat_le, ◌⊎◌, List, [], ◌∷◌}
-use Rattle.std.specs.Prelude.{◌++◌, map, length, sum_by, count_by, filter_map, Contains, Option, None, Some, if◌then◌else◌}
+use Rattle.std.specs.Prelude.{◌≡◌, ℕ, ◌+◌, ◌-◌, ◌<◌, ◌≤◌, min, nat_le, ◌⊎◌, Bool, true, false}
+use Rattle.std.specs.Prelude.{List, [], ◌∷◌, ◌++◌, map, length, sum_by, count_by, filter_map, Contains}
+use Rattle.std.specs.Prelude.{Option, None, Some, if◌then◌else◌}
 use Rattle.std.specs.List.{AllByRecursion, slice_get}
 use Rattle.minislots.specs.declared.config.Config.{Config}
 use Rattle.minislots.specs.Units.{slots_for}
@@ -19,17 +20,23 @@ use Rattle.map_build.specs.Purpose.{Class, Placed, Reserved, Requested, Left, cl
 use Rattle.map_build.specs.Purpose.{is_data_grant, place_of, grant_to, allocation_of}
 
 -- What a frame has to serve: the minislot at which it starts, the live flows before it, what polls and unsolicited
--- grants take of it, and the opportunities that wait for its MAP, in their order
+-- grants take of it, the opportunities that wait for its MAP, in their order, and whether nobody sends in the frame,
+-- since a new UCD settles
 pub record Demand : Type 0 where
   pub start : ℕ
   pub flows : List LiveFlow
   pub spots : List Spot
   pub waiting : List Opportunity
+  pub settles : Bool
 
--- the same of its parts
+-- what a frame in which modems may send has to serve
 abbrev pub demand_at : List LiveFlow → List Spot → List Opportunity → ℕ → Demand
 demand_at flows spots waiting start =
-    record { start = start; flows = flows; spots = spots; waiting = waiting }
+    record { start = start; flows = flows; spots = spots; waiting = waiting; settles = false }
+
+-- the same of a frame in which nobody sends
+abbrev pub settling : Demand → Demand
+settling d = record d { settles = true }
 
 -- the most data grants of its MAP, beside the pending grants that it may have: each opportunity that waits takes the
 -- place of one
@@ -121,8 +128,9 @@ pub record Stands (c : Config) (d : Demand) (before : List Allocation) (a : Allo
   pub purpose : IsOfClass c d before a.offset a.slots a.purpose
   pub first : AllByRecursion (NoneOf c d before a.offset) (classes_before (class_of a.purpose))
 
--- The allocations fill a frame, lawfully for what it has to serve
+-- The allocations fill a frame, lawfully for what it has to serve. There are none where nobody sends in it.
 pub record IsPlan (c : Config) (d : Demand) (plan : List Allocation) : Type 0 where
   pub each : EachAfter (Stands c d) [] plan
-  pub whole : end_of c plan ≡ c.frame
-  pub due : AllByRecursion (λ s. Contains plan (allocation_of s)) d.spots
+  pub whole : d.settles ≡ false → end_of c plan ≡ c.frame
+  pub due : d.settles ≡ false → AllByRecursion (λ s. Contains plan (allocation_of s)) d.spots
+  pub quiet : d.settles ≡ true → plan ≡ []

@@ -1,5 +1,6 @@
 -- The kinds of allocations: what each is on the wire, and its class. A kind more is one line in each of these tables.
-use Rattle.std.specs.Prelude.{◌≡◌, ℕ, ◌+◌, Bool, true, false, ◌==◌, List, [], ◌∷◌, Option, None, Some, if◌then◌else◌}
+use Rattle.std.specs.Prelude.{◌≡◌, ℕ, ◌+◌, Bool, true, false, ◌==◌, ◌&&◌, nat_le, List, [], ◌∷◌}
+use Rattle.std.specs.Prelude.{Option, None, Some, if◌then◌else◌}
 use Rattle.minislots.specs.declared.config.Config.{Config}
 use Rattle.minislots.specs.Units.{is_short}
 use Rattle.map_codec.specs.declared.element.Element.{Element}
@@ -7,12 +8,12 @@ use Rattle.map_codec.specs.declared.element.iuc.TheConstants.{REQUEST, INITIAL_M
 use Rattle.flow_book.specs.declared.flow.Grant.{Grant}
 use Rattle.periodic.specs.declared.placement.Spot.{Spot}
 use Rattle.sched_calls.specs.declared.opportunity.Usage.{Usage}
-use Rattle.sched_calls.specs.declared.opportunity.Usage.TheVariants.{Initial, Station}
+use Rattle.sched_calls.specs.declared.opportunity.Usage.TheVariants.{Initial, InitialTo, Station, Request, Quiet, DataTo}
 use Rattle.map_build.specs.declared.purpose.Allocation.{Allocation}
 use Rattle.map_build.specs.declared.purpose.Kind.{Kind}
 use Rattle.map_build.specs.declared.purpose.Purpose.{Purpose}
 use Rattle.map_build.specs.declared.purpose.Purpose.TheVariants.{Poll, UnsolicitedGrant, Offer, DataGrant, Idle}
-use Rattle.map_build.specs.UsageCodes.{long_iuc, data_iuc, unsolicited_iuc}
+use Rattle.map_build.specs.UsageCodes.{long_iuc, data_iuc, full_iuc, unsolicited_iuc}
 
 -- all modems
 abbrev pub broadcast : ℕ
@@ -21,20 +22,37 @@ broadcast = 16383
 -- the SID that an opportunity goes to
 abbrev pub sid_for : Usage → ℕ
 sid_for Initial = broadcast
+sid_for (InitialTo sid) = sid
 sid_for (Station sid) = sid
+sid_for (Request sid) = sid
+sid_for Quiet = 0
+sid_for (DataTo sid) = sid
 
--- the usage code of an opportunity
-abbrev pub iuc_for : Usage → ℕ
-iuc_for Initial = INITIAL_MAINTENANCE
-iuc_for (Station sid) = STATION_MAINTENANCE
+-- the usage code of an opportunity of so many minislots
+abbrev pub iuc_for : Config → ℕ → Usage → ℕ
+iuc_for c slots Initial = INITIAL_MAINTENANCE
+iuc_for c slots (InitialTo sid) = INITIAL_MAINTENANCE
+iuc_for c slots (Station sid) = STATION_MAINTENANCE
+iuc_for c slots (Request sid) = REQUEST
+iuc_for c slots Quiet = long_iuc c
+iuc_for c slots (DataTo sid) = full_iuc c slots
 
--- what the element says, and the bytes that are told beside it: those of a data grant, else 0
-abbrev pub kind_of : Config → Purpose → Kind
-kind_of c (Poll sid) = record { sid = sid; iuc = REQUEST; bytes = 0 }
-kind_of c (UnsolicitedGrant sid size) = record { sid = sid; iuc = unsolicited_iuc c size; bytes = 0 }
-kind_of c (Offer place usage) = record { sid = sid_for usage; iuc = iuc_for usage; bytes = 0 }
-kind_of c (DataGrant sid bytes) = record { sid = sid; iuc = data_iuc c bytes; bytes = bytes }
-kind_of c Idle = record { sid = 0; iuc = long_iuc c; bytes = 0 }
+-- whether an idle of so many minislots is open to the requests of all modems
+abbrev pub is_open : Config → ℕ → Bool
+is_open c slots = c.open_idle == 1 && nat_le c.poll_slots slots
+
+-- what the element of an allocation of so many minislots says, and the bytes that are told beside it: those of a data
+-- grant, else 0. An open idle says what a request region does.
+abbrev pub kind_of : Config → ℕ → Purpose → Kind
+kind_of c slots (Poll sid) = record { sid = sid; iuc = REQUEST; bytes = 0 }
+kind_of c slots (UnsolicitedGrant sid size) = record { sid = sid; iuc = unsolicited_iuc c size; bytes = 0 }
+kind_of c slots (Offer place usage) = record { sid = sid_for usage; iuc = iuc_for c slots usage; bytes = 0 }
+kind_of c slots (DataGrant sid bytes) = record { sid = sid; iuc = data_iuc c bytes; bytes = bytes }
+kind_of c slots Idle = record {
+  sid = if is_open c slots then broadcast else 0;
+  iuc = if is_open c slots then REQUEST else long_iuc c;
+  bytes = 0;
+}
 
 -- the classes of allocations, in the order of who goes first where several could stand at an offset
 pub data Class : Type 0 where
@@ -90,14 +108,14 @@ allocation_of s = record { offset = s.offset; slots = s.slots; purpose = purpose
 -- the element of an allocation
 abbrev pub element_of : Config → Allocation → Element
 element_of c a = record {
-  sid = (kind_of c a.purpose).sid;
-  iuc = (kind_of c a.purpose).iuc;
+  sid = (kind_of c a.slots a.purpose).sid;
+  iuc = (kind_of c a.slots a.purpose).iuc;
   offset = a.offset;
 }
 
 -- its bytes
 abbrev pub bytes_in : Config → Allocation → ℕ
-bytes_in c a = (kind_of c a.purpose).bytes
+bytes_in c a = (kind_of c a.slots a.purpose).bytes
 
 -- whether it is short is what the bytes of a data grant say
 abbrev pub IsUsage : Config → Bool → Purpose → Type 0

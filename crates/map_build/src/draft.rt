@@ -15,6 +15,7 @@ ghost use Rattle.map_build.specs.FrameMap.{map_with};
 ghost use Rattle.map_build.specs.Spots.{AreInFrame};
 ghost use Rattle.map_build.specs.Draft.{Puts, PutsAllocation, PutsPending, Ends};
 ghost use Rattle.map_build.specs.Walk.{HasPlan};
+ghost use Rattle.map_build.specs.Begun.{IsBegun, IsQuiet};
 
 use crate::MAX_WAITING;
 use crate::purpose::{Allocation, BROADCAST, Chosen, NOBODY};
@@ -47,6 +48,37 @@ pub(crate) struct Draft {
 }
 
 impl Draft {
+    // Nothing yet of the frame that starts there.
+    #[inline(always)]
+    fn begin(alloc: Global, book: &Book, start: u64) -> Result<Draft, AllocError>
+        requires started { AllByRecursion (HasStartedBy start) book.now.flows }
+        requires bounded { start ≤ 2 ^ 61 }
+        ensures { IfOk result (IsBegun book.now.config book.now.flows start) }
+    {
+        Ok(Draft {
+            overlay: book.overlay()?,
+            start,
+            elements: Vec::with_capacity(alloc, FEW_ELEMENTS)?,
+            bytes: Vec::with_capacity(alloc, usize::from(MAX_ELEMENTS))?,
+            offset: 0,
+            grants: 0,
+            met: [false; MAX_WAITING],
+        })
+    }
+
+    /// The idle of a frame in which nobody sends, alone.
+    pub(crate) fn quiet(alloc: Global, book: &Book, start: u64) -> Result<Draft, AllocError>
+        requires started { AllByRecursion (HasStartedBy start) book.now.flows }
+        requires bounded { start ≤ 2 ^ 61 }
+        ensures { IfOk result (IsQuiet book.now.config book.now.flows start) }
+    {
+        let mut draft = Draft::begin(alloc, book, start)?;
+        let iuc = long_iuc(draft.overlay.config());
+        let frame = draft.overlay.config().frame() as u16;
+        draft.put_slots(NOBODY, iuc, frame, 0)?;
+        Ok(draft)
+    }
+
     /// The request region alone.
     pub(crate) fn open(alloc: Global, book: &Book, start: u64) -> Result<Draft, AllocError>
         requires started { AllByRecursion (HasStartedBy start) book.now.flows }
@@ -55,15 +87,7 @@ impl Draft {
             → AreInFrame book.now.config spots
             → HasPlan book.now.config (demand_at book.now.flows spots waiting start) [] d) }
     {
-        let mut draft = Draft {
-            overlay: book.overlay()?,
-            start,
-            elements: Vec::with_capacity(alloc, FEW_ELEMENTS)?,
-            bytes: Vec::with_capacity(alloc, usize::from(MAX_ELEMENTS))?,
-            offset: 0,
-            grants: 0,
-            met: [false; MAX_WAITING],
-        };
+        let mut draft = Draft::begin(alloc, book, start)?;
         let requests = draft.overlay.config().req_slots() as u16;
         draft.put_slots(BROADCAST, iuc::REQUEST, requests, 0)?;
         Ok(draft)
@@ -76,7 +100,7 @@ impl Draft {
         ensures { OnOk result (PutsAllocation chosen.allocation self.old self.new) }
     {
         let Allocation { slots, purpose, .. } = chosen.allocation;
-        let kind = purpose.kind(self.overlay.config(), chosen.is_short);
+        let kind = purpose.kind(slots, self.overlay.config(), chosen.is_short);
         self.put_slots(kind.sid, kind.iuc, slots, kind.bytes)
     }
 

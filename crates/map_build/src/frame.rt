@@ -7,7 +7,7 @@ ghost use Rattle.flow_book.specs.Choice.{HasStartedBy};
 ghost use Rattle.periodic.specs.Placement.{due_in};
 ghost use Rattle.sched_calls.specs.declared.frame_map.FrameMap.{FrameMap};
 ghost use Rattle.sched_calls.specs.Header.{header_of};
-ghost use Rattle.map_build.specs.Opportunities.{MayWait, HaveStationSids, MeetsFirst};
+ghost use Rattle.map_build.specs.Opportunities.{MayWait, HaveElementSids, MeetsFirst};
 ghost use Rattle.map_build.specs.Plan.{Demand, demand_at};
 ghost use Rattle.map_build.specs.FrameMap.{IsLawfulMap, IsLawfulFrame};
 ghost use Rattle.map_build.specs.Spots.{AreInFrame, AreOfChannel, HaveFlowSids, ArePeriodicOf};
@@ -19,8 +19,8 @@ use periodic::{MAX_SPOTS, Spot, Table};
 use sched_calls::{FrameMap, Header, Opportunity};
 use std::alloc::{AllocError, Global};
 
-// What stands in an array of spots before one is written.
-const NO_SPOT: Spot = Spot {
+/// What stands in an array of spots before one is written.
+pub(crate) const NO_SPOT: Spot = Spot {
     sid: 0,
     size: None,
     offset: 0,
@@ -58,7 +58,7 @@ fn plan_around(
     ensures only { IfOk result (λ p. (n : FrameMap) → IsLawfulMap book.now.config
         (demand_at book.now.flows spots.now waiting.now start) header progress n → n ≡ p.map) }
     ensures encodable { AreOfChannel book.now.flows → HaveFlowSids spots.now
-        → HaveStationSids waiting.now → IfOk result (λ p. IsWellFormed p.map.wire) }
+        → HaveElementSids waiting.now → IfOk result (λ p. IsWellFormed p.map.wire) }
     ensures config { IfOk result (λ p. p.overlay.config ≡ book.now.config) }
 {
     let mut draft = Draft::open(alloc, book, start)?;
@@ -127,7 +127,7 @@ pub fn plan_with_book(
         (frame * book.now.config.frame)) header progress n → n ≡ p.map) }
     ensures first { IfOk result (λ p. MeetsFirst book.now.config
         (due_in book.now.config frame table.now.placed) waiting.now p.met) }
-    ensures encodable { AreOfChannel book.now.flows → HaveStationSids waiting.now
+    ensures encodable { AreOfChannel book.now.flows → HaveElementSids waiting.now
         → IfOk result (λ p. IsWellFormed p.map.wire) }
     ensures config { IfOk result (λ p. p.overlay.config ≡ book.now.config) }
 {

@@ -3,14 +3,18 @@
 
 mod draft;
 mod frame;
+mod met;
 mod opportunity;
 mod purpose;
+mod settling;
 mod usage_codes;
 mod walk;
 
 pub use frame::{PlannedFrame, plan_frame, plan_with_book};
+pub use met::{Met, meets_at, met_in};
 pub use purpose::{Allocation, Kind, Purpose};
 pub use sched_calls::{ByteCounts, FrameMap, Header, Opportunity, Usage};
+pub use settling::plan_settling;
 
 /// The most data grants of one MAP, where no opportunity waits for it. Each that waits takes the place of one.
 pub const MAX_DATA_GRANTS: usize = 93;

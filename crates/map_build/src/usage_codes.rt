@@ -1,7 +1,7 @@
 //! The usage codes of grants, by the channel's physical layer.
 
 ghost use Rattle.std.specs.Prelude.{◌≡◌, ◌==◌, if◌then◌else◌};
-ghost use Rattle.map_build.specs.UsageCodes.{short_iuc, long_iuc, unsolicited_iuc};
+ghost use Rattle.map_build.specs.UsageCodes.{short_iuc, long_iuc, full_iuc, unsolicited_iuc};
 
 use map_codec::iuc;
 use minislots::Checked;
@@ -43,6 +43,18 @@ pub(crate) fn data_iuc(config: &Checked, is_short: bool) -> u8
         short_iuc(config)
     } else {
         long_iuc(config)
+    }
+}
+
+/// The usage code of a data grant of as many bytes as so many minislots carry: long where they carry none.
+pub(crate) fn full_iuc(config: &Checked, slots: u16) -> u8
+    ensures { result ≡ full_iuc config.now slots }
+{
+    // So few minislots of a lawful configuration carry fewer bytes than 2^32.
+    let _lawful = config.frame();
+    match config.bytes_in(u32::from(slots)) {
+        0 => long_iuc(config),
+        bytes => data_iuc(config, config.grant_size(bytes as u32).is_short),
     }
 }
 

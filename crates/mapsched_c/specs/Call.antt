@@ -8,7 +8,8 @@ use Rattle.sched_calls.specs.declared.spec.FlowSpec.{FlowSpec}
 use Rattle.sched_calls.specs.declared.spec.FlowSpec.TheVariants.{Unsolicited, Polled, BestEffort}
 use Rattle.sched_calls.specs.declared.opportunity.Header.{Header}
 use Rattle.sched_calls.specs.declared.opportunity.Usage.{Usage}
-use Rattle.sched_calls.specs.declared.opportunity.Usage.TheVariants.{Initial, Station}
+use Rattle.sched_calls.specs.declared.opportunity.Usage.TheVariants.{Initial, InitialTo, Station}
+use Rattle.sched_calls.specs.declared.opportunity.Usage.TheVariants.{Request, Quiet, DataTo}
 use Rattle.sched_calls.specs.declared.call.Call.{Call}
 use Rattle.sched_calls.specs.declared.call.Call.TheVariants as calls
 use Rattle.sched_calls.specs.declared.call.Call.TheVariants.{Admit, Remove, Ask, Heard, Build, Skip, Status, Reserve}
@@ -17,7 +18,7 @@ use Rattle.mapsched_c.specs.declared.call.PlainCall.{PlainCall}
 use Rattle.mapsched_c.specs.declared.call.kind.TheConstants.{ADMIT, REMOVE, ASK, HEARD, BUILD, SKIP, STATUS}
 use Rattle.mapsched_c.specs.declared.call.kind.TheConstants.{RESERVE, HEADER, REPLACE, CHANGE, REST, WAKE}
 use Rattle.mapsched_c.specs.declared.call.flow.TheConstants.{UNSOLICITED, POLLED, BEST_EFFORT}
-use Rattle.mapsched_c.specs.declared.call.usage.TheConstants.{INITIAL, STATION}
+use Rattle.mapsched_c.specs.declared.call.usage.TheConstants.{INITIAL, STATION, INITIAL_TO, REQUEST, QUIET, DATA}
 
 -- the flow of these numbers, where there is such a kind
 abbrev pub flow_of : PlainCall → Option FlowSpec
@@ -26,9 +27,15 @@ flow_of c = if c.flow == UNSOLICITED then Some (Unsolicited c.size c.interval_us
     else if c.flow == BEST_EFFORT then Some (BestEffort c.priority c.rate c.burst)
     else None
 
--- whom the opportunity of these numbers is for, where there is such a kind
+-- what the opportunity of these numbers is used for, where there is such a usage
 abbrev pub usage_of : PlainCall → Option Usage
-usage_of c = if c.flow == INITIAL then Some Initial else if c.flow == STATION then Some (Station c.sid) else None
+usage_of c = if c.flow == INITIAL then Some Initial
+    else if c.flow == STATION then Some (Station c.sid)
+    else if c.flow == INITIAL_TO then Some (InitialTo c.sid)
+    else if c.flow == REQUEST then Some (Request c.sid)
+    else if c.flow == QUIET then Some Quiet
+    else if c.flow == DATA then Some (DataTo c.sid)
+    else None
 
 -- how much the request of these numbers asks for: bytes, where the flag of minislots is 0
 abbrev pub amount_of : PlainCall → Amount
@@ -115,6 +122,15 @@ abbrev pub plain_request : ℕ → ℕ → ℕ → Amount → ℕ → PlainCall
 plain_request kind receiver sid amount heard =
     record (plain_amount amount) { kind = kind; receiver = receiver; sid = sid; minislot = heard }
 
+-- the numbers of what an opportunity is used for: the SID is 0 where it is for all modems or for none
+abbrev pub plain_usage : Usage → PlainCall
+plain_usage Initial = record nothing_called { flow = INITIAL }
+plain_usage (Station sid) = record nothing_called { flow = STATION; sid = sid }
+plain_usage (InitialTo sid) = record nothing_called { flow = INITIAL_TO; sid = sid }
+plain_usage (Request sid) = record nothing_called { flow = REQUEST; sid = sid }
+plain_usage Quiet = record nothing_called { flow = QUIET }
+plain_usage (DataTo sid) = record nothing_called { flow = DATA; sid = sid }
+
 -- the numbers of a call: those that its kind has not are 0
 abbrev pub plain_call : Call → PlainCall
 plain_call (Admit sid spec) = record (plain_flow spec) { kind = ADMIT; sid = sid }
@@ -124,9 +140,7 @@ plain_call (Heard receiver upto) = record nothing_called { kind = HEARD; receive
 plain_call (Build now) = record nothing_called { kind = BUILD; minislot = now }
 plain_call (Skip now) = record nothing_called { kind = SKIP; minislot = now }
 plain_call (Status sid) = record nothing_called { kind = STATUS; sid = sid }
-plain_call (Reserve Initial slots) = record nothing_called { kind = RESERVE; flow = INITIAL; size = slots }
-plain_call (Reserve (Station sid) slots) =
-    record nothing_called { kind = RESERVE; flow = STATION; size = slots; sid = sid }
+plain_call (Reserve usage slots) = record (plain_usage usage) { kind = RESERVE; size = slots }
 plain_call (calls.Header header) = record nothing_called {
   kind = HEADER;
   receiver = header.ucd_count;

@@ -48,6 +48,8 @@ config_of c = record {
   flows = or_missing c.flows 64;
   pending = or_missing c.pending 64;
   periodic = periodic_of c;
+  open_idle = c.open_idle;
+  settle = c.settle;
 }
 
 -- the status is that of the configuration: lawful, or its first wrong field

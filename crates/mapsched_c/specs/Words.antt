@@ -27,7 +27,8 @@ field_names =
     codes "ticks" ∷ codes "bytes_per_slot" ∷ codes "overhead" ∷ codes "frame" ∷ codes "cycle" ∷ codes "req_slots"
     ∷ codes "poll_slots" ∷ codes "lead" ∷ codes "short_max" ∷ codes "quantum" ∷ codes "grant_cap" ∷ codes "receivers"
     ∷ codes "calls" ∷ codes "start" ∷ codes "ranging_start" ∷ codes "ranging_end" ∷ codes "data_start"
-    ∷ codes "data_end" ∷ codes "phy" ∷ codes "bursts" ∷ codes "flows" ∷ codes "pending" ∷ codes "periodic" ∷ []
+    ∷ codes "data_end" ∷ codes "phy" ∷ codes "bursts" ∷ codes "flows" ∷ codes "pending" ∷ codes "periodic"
+    ∷ codes "open_idle" ∷ codes "settle" ∷ []
 
 -- what the faults of a payload say, by their numbers from 1
 abbrev pub payload_texts : List (List ℕ)

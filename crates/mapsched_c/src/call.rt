@@ -2,7 +2,7 @@
 
 ghost use Rattle.std.specs.Prelude.{◌≡◌, Some};
 ghost use Rattle.mapsched_c.specs.Call.{call_of, flow_of, usage_of, amount_of, header_of, nothing_called, plain_call};
-ghost use Rattle.mapsched_c.specs.Call.{plain_flow, plain_amount, plain_request};
+ghost use Rattle.mapsched_c.specs.Call.{plain_flow, plain_usage, plain_amount, plain_request};
 
 use flow_book::FlowSpec;
 use map_build::{Header, Usage};
@@ -32,7 +32,7 @@ pub mod kind {
     /// Asks for a flow's bytes.
     pub const STATUS: u32 = 6;
 
-    /// Asks for an opportunity to range.
+    /// Asks for an opportunity.
     pub const RESERVE: u32 = 7;
 
     /// Sets the UCD count and the backoff windows of the next MAPs.
@@ -51,13 +51,25 @@ pub mod kind {
     pub const WAKE: u32 = 12;
 }
 
-/// Whom an opportunity is for.
+/// What an opportunity is used for.
 pub mod usage {
     /// Initial Maintenance: all modems that join the channel.
     pub const INITIAL: u32 = 0;
 
     /// Station Maintenance: the modem of the service identifier.
     pub const STATION: u32 = 1;
+
+    /// Initial Maintenance: the modem of the service identifier.
+    pub const INITIAL_TO: u32 = 2;
+
+    /// Requests: the modems of the service identifier.
+    pub const REQUEST: u32 = 3;
+
+    /// Nobody sends.
+    pub const QUIET: u32 = 4;
+
+    /// A data grant: the modem of the service identifier.
+    pub const DATA: u32 = 5;
 }
 
 /// The kinds of flows.
@@ -79,7 +91,7 @@ pub mod flow {
 pub struct PlainCall {
     /// The number of its kind: one of [`kind`].
     pub kind: u32,
-    /// An admission's or a change's kind of flow: one of [`flow`]. Whom an opportunity is for: one of [`usage`].
+    /// An admission's or a change's kind of flow: one of [`flow`]. What an opportunity is used for: one of [`usage`].
     pub flow: u32,
     /// An unsolicited flow's bytes in a grant. How many minislots an opportunity has, or a request asks for.
     pub size: u32,
@@ -95,7 +107,7 @@ pub struct PlainCall {
     pub bytes: u32,
     /// The minislot at which it is made or was heard, or up to which all was heard.
     pub minislot: u64,
-    /// The service identifier of the flow, or of the modem that an opportunity is for.
+    /// The service identifier of the flow, or of the modems that an opportunity is for.
     pub sid: u16,
     /// The receiver that heard a request, or has handed in all. A header's UCD count.
     pub receiver: u8,
@@ -158,13 +170,17 @@ impl PlainCall {
         }
     }
 
-    // Whom the opportunity is for, where there is such a kind.
+    // What the opportunity is used for, where there is such a usage.
     fn usage(&self) -> Option<Usage>
         ensures { result ≡ usage_of self.now }
     {
         match self.flow {
             usage::INITIAL => Some(Usage::Initial),
             usage::STATION => Some(Usage::Station(self.sid)),
+            usage::INITIAL_TO => Some(Usage::InitialTo(self.sid)),
+            usage::REQUEST => Some(Usage::Request(self.sid)),
+            usage::QUIET => Some(Usage::Quiet),
+            usage::DATA => Some(Usage::DataTo(self.sid)),
             _ => None,
         }
     }
@@ -386,24 +402,39 @@ impl PlainCall {
         }
     }
 
+    // The numbers of an opportunity that is used so, for the modems of an SID.
+    fn of_use(usage: u32, sid: u16) -> PlainCall
+        ensures { result ≡ record nothing_called { flow = usage; sid = sid } }
+    {
+        PlainCall {
+            flow: usage,
+            sid,
+            ..NOTHING
+        }
+    }
+
+    // The numbers of what an opportunity is used for.
+    fn of_usage(usage: Usage) -> PlainCall
+        ensures { result ≡ plain_usage usage }
+    {
+        match usage {
+            Usage::Initial => PlainCall::of_use(usage::INITIAL, 0),
+            Usage::Station(sid) => PlainCall::of_use(usage::STATION, sid),
+            Usage::InitialTo(sid) => PlainCall::of_use(usage::INITIAL_TO, sid),
+            Usage::Request(sid) => PlainCall::of_use(usage::REQUEST, sid),
+            Usage::Quiet => PlainCall::of_use(usage::QUIET, 0),
+            Usage::DataTo(sid) => PlainCall::of_use(usage::DATA, sid),
+        }
+    }
+
     // The numbers of a Reserve.
     fn of_reserve(usage: Usage, slots: u32) -> PlainCall
         ensures { result ≡ plain_call (Call.Reserve usage slots) }
     {
-        match usage {
-            Usage::Initial => PlainCall {
-                kind: kind::RESERVE,
-                flow: usage::INITIAL,
-                size: slots,
-                ..NOTHING
-            },
-            Usage::Station(sid) => PlainCall {
-                kind: kind::RESERVE,
-                flow: usage::STATION,
-                size: slots,
-                sid,
-                ..NOTHING
-            },
+        PlainCall {
+            kind: kind::RESERVE,
+            size: slots,
+            ..PlainCall::of_usage(usage)
         }
     }
 

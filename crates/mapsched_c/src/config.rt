@@ -6,8 +6,7 @@ ghost use Rattle.mapsched_c.specs.Config.{bursts_of, or_missing, periodic_of, co
 use crate::bursts::PlainBursts;
 use minislots::{Bursts, Config};
 
-/// The fields of a [`Config`], in an order that leaves no gaps, and behind them what a channel may lack: it lacks what
-/// is 0.
+/// The fields of a [`Config`] by their sizes, and behind them what a channel may lack: it lacks what is 0.
 #[repr(C)]
 #[derive(Clone, Copy)]
 pub struct PlainConfig {
@@ -53,6 +52,8 @@ pub struct PlainConfig {
     pub ucd_count: u8,
     /// 0 for a channel of TDMA bursts alone, 1 for one with Advanced PHY bursts.
     pub phy: u8,
+    /// 1 where an idle that holds a poll is open to the requests of all modems, else 0.
+    pub open_idle: u8,
     /// Whether there are burst descriptors: 0 where there are none.
     pub has_bursts: u32,
     /// The burst descriptors, where there are some.
@@ -65,6 +66,8 @@ pub struct PlainConfig {
     pub has_periodic: u32,
     /// The most grants and polls of an interval, all periodic flows together: 40 where there is no limit.
     pub periodic: u32,
+    /// Minislots for which nobody is granted any once a MAP goes by a new UCD.
+    pub settle: u32,
 }
 
 // The number that stands, or the one of a missing field where it is 0.
@@ -128,6 +131,8 @@ impl PlainConfig {
             flows: or_missing(self.flows, 64),
             pending: or_missing(self.pending, 64),
             periodic: self.periodic_of(),
+            open_idle: self.open_idle,
+            settle: self.settle,
         }
     }
 }

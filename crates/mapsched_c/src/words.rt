@@ -45,7 +45,7 @@ static STATUSES: [&[u8]; 22] = [
 ];
 
 // The fields of a configuration that can be wrong, by their numbers from 1.
-static FIELDS: [&[u8]; 23] = [
+static FIELDS: [&[u8]; 25] = [
     b"ticks",
     b"bytes_per_slot",
     b"overhead",
@@ -69,6 +69,8 @@ static FIELDS: [&[u8]; 23] = [
     b"flows",
     b"pending",
     b"periodic",
+    b"open_idle",
+    b"settle",
 ];
 
 // What the faults of a payload say, by their numbers from 1.

@@ -111,7 +111,7 @@ bounds_of c h =
     let (quantum, (cap, of_history)) = of_grants in
     let (receivers, (calls, (start, of_backoffs))) = of_history in
     let (ranging_start, (ranging_end, (data_start, (data_end, of_channel)))) = of_backoffs in
-    let (phy, (flows, (pending, (periodic, end)))) = of_channel in
+    let (phy, (flows, (pending, (periodic, (open_idle, (settle, end)))))) = of_channel in
     record {
       ticks_positive = omega (arith, ticks_within c.ticks ticks);
       ticks_most = (ticks_within c.ticks ticks).1;
@@ -147,4 +147,6 @@ bounds_of c h =
       pending_positive = (within 1 125 c.pending pending).0;
       pending_most = (within 1 125 c.pending pending).1;
       periodic_most = at_most _ _ periodic;
+      open_idle_most = at_most _ _ open_idle;
+      settle_most = at_most _ _ settle;
     }

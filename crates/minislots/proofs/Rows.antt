@@ -5,7 +5,7 @@ use Rattle.minislots.specs.declared.bursts.Profile.{Profile}
 use Rattle.minislots.specs.declared.config.Config.{Config}
 use Rattle.minislots.specs.declared.config.ConfigFault.TheVariants.{Ticks, Bursts, Frame, Lead}
 use Rattle.minislots.specs.declared.config.ConfigFault.TheVariants.{GrantCap, Start, DataEnd, Phy}
-use Rattle.minislots.specs.declared.config.ConfigFault.TheVariants.{Flows, Pending, Periodic}
+use Rattle.minislots.specs.declared.config.ConfigFault.TheVariants.{Flows, Pending, Periodic, OpenIdle, Settle}
 use Rattle.minislots.specs.Config.{first_wrong, IsLawful}
 use Rattle.minislots.specs.Bursts.{coded, symbols_of, slots_by, bytes_by}
 use Rattle.minislots.specs.Units.{is_short, slots_floor, slots_of_micros, slots_for, bytes_in, wire_of}
@@ -36,6 +36,8 @@ base = record {
   flows = 64;
   pending = 64;
   periodic = 40;
+  open_idle = 0;
+  settle = 0;
 }
 
 base_is_lawful : IsLawful base
@@ -213,6 +215,18 @@ pending_of_126 = refl
 periodic_of_2561 : first_wrong (record base { periodic = 2561 }) ≡ Some Periodic
 unfolding first_wrong
 periodic_of_2561 = refl
+
+idles_open_for_requests : IsLawful (record base { open_idle = 1; settle = 4096 })
+unfolding first_wrong
+idles_open_for_requests = refl
+
+open_idle_of_2 : first_wrong (record base { open_idle = 2; settle = 4097 }) ≡ Some OpenIdle
+unfolding first_wrong
+open_idle_of_2 = refl
+
+settle_of_4097 : first_wrong (record base { settle = 4097 }) ≡ Some Settle
+unfolding first_wrong
+settle_of_4097 = refl
 
 flows_after_phy : first_wrong (record base { phy = 2; flows = 0 }) ≡ Some Phy
 unfolding first_wrong

@@ -11,7 +11,7 @@ use Rattle.minislots.specs.declared.config.ConfigFault.TheVariants.{Cycle, ReqSl
 use Rattle.minislots.specs.declared.config.ConfigFault.TheVariants.{ShortMax, Quantum, GrantCap}
 use Rattle.minislots.specs.declared.config.ConfigFault.TheVariants.{Receivers, Calls, Start, RangingStart}
 use Rattle.minislots.specs.declared.config.ConfigFault.TheVariants.{RangingEnd, DataStart, DataEnd, Phy}
-use Rattle.minislots.specs.declared.config.ConfigFault.TheVariants.{Flows, Pending, Periodic}
+use Rattle.minislots.specs.declared.config.ConfigFault.TheVariants.{Flows, Pending, Periodic, OpenIdle, Settle}
 use Rattle.minislots.specs.Bursts.{HasBursts, is_within, are_descriptors, long_slots}
 use Rattle.minislots.specs.Units.{slots_for}
 
@@ -60,6 +60,8 @@ is_lawful_field c Phy = nat_le c.phy 1
 is_lawful_field c Flows = is_within 1 8191 c.flows
 is_lawful_field c Pending = is_within 1 125 c.pending
 is_lawful_field c Periodic = nat_le c.periodic 2560
+is_lawful_field c OpenIdle = nat_le c.open_idle 1
+is_lawful_field c Settle = nat_le c.settle 4096
 
 -- the fields of a burst
 abbrev pub burst_fields : List ConfigFault
@@ -89,12 +91,16 @@ channel_fields = Phy ∷ []
 abbrev pub flow_fields : List ConfigFault
 flow_fields = Flows ∷ Pending ∷ Periodic ∷ []
 
+-- the fields of idles that are open to requests, and of MAPs in which nobody sends
+abbrev pub idle_fields : List ConfigFault
+idle_fields = OpenIdle ∷ Settle ∷ []
+
 -- the fields that can be wrong, in their order
 abbrev pub fields : List ConfigFault
 fields =
     Ticks ∷ BytesPerSlot ∷ Overhead ∷ Bursts ∷ Frame ∷ Cycle ∷ ReqSlots ∷ PollSlots ∷ Lead ∷ ShortMax
     ∷ Quantum ∷ GrantCap ∷ Receivers ∷ Calls ∷ Start ∷ RangingStart ∷ RangingEnd ∷ DataStart ∷ DataEnd ∷ Phy
-    ∷ Flows ∷ Pending ∷ Periodic ∷ []
+    ∷ Flows ∷ Pending ∷ Periodic ∷ OpenIdle ∷ Settle ∷ []
 
 -- the first of some fields that is wrong
 abbrev pub first_wrong_of : Config → List ConfigFault → Option ConfigFault
@@ -149,3 +155,5 @@ pub record HasBounds (c : Config) : Type 0 where
   pub pending_positive : 0 < c.pending
   pub pending_most : c.pending ≤ 125
   pub periodic_most : c.periodic ≤ 2560
+  pub open_idle_most : c.open_idle ≤ 1
+  pub settle_most : c.settle ≤ 4096

@@ -7,7 +7,7 @@ use Rattle.minislots.specs.declared.config.ConfigFault.TheVariants.{Cycle, ReqSl
 use Rattle.minislots.specs.declared.config.ConfigFault.TheVariants.{ShortMax, Quantum, GrantCap}
 use Rattle.minislots.specs.declared.config.ConfigFault.TheVariants.{Receivers, Calls, Start, RangingStart}
 use Rattle.minislots.specs.declared.config.ConfigFault.TheVariants.{RangingEnd, DataStart, DataEnd, Phy}
-use Rattle.minislots.specs.declared.config.ConfigFault.TheVariants.{Flows, Pending, Periodic}
+use Rattle.minislots.specs.declared.config.ConfigFault.TheVariants.{Flows, Pending, Periodic, OpenIdle, Settle}
 use Rattle.minislots.specs.declared.config.ranges.FieldRule.{FieldRule}
 use Rattle.minislots.specs.declared.config.ranges.FieldRule.TheVariants.{Any, PowerOfTwo, WholeFrames}
 use Rattle.minislots.specs.declared.bursts.Bursts as the_bursts
@@ -41,6 +41,8 @@ count_before Phy = 19
 count_before Flows = 20
 count_before Pending = 21
 count_before Periodic = 22
+count_before OpenIdle = 23
+count_before Settle = 24
 
 -- the fields before this one
 abbrev pub fields_before : ConfigFault → List ConfigFault
@@ -89,6 +91,8 @@ with_value c Phy n = record c { phy = n }
 with_value c Flows n = record c { flows = n }
 with_value c Pending n = record c { pending = n }
 with_value c Periodic n = record c { periodic = n }
+with_value c OpenIdle n = record c { open_idle = n }
+with_value c Settle n = record c { settle = n }
 
 -- the number is a power of two, where it is below 256
 abbrev pub is_power_of_two : ℕ → Bool

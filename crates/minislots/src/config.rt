@@ -68,6 +68,10 @@ pub struct Config {
     pub pending: u32,
     /// The most grants and polls of an interval, all periodic flows together: at most 2560.
     pub periodic: u32,
+    /// Whether an idle in which a poll has room is open to the requests of all modems: 1, else 0.
+    pub open_idle: u8,
+    /// Minislots for which nobody is granted any once a MAP goes by a new UCD: at most 4096, 0 for none.
+    pub settle: u32,
 }
 
 /// The first field of a configuration that has no lawful value, in the order of the fields.
@@ -96,6 +100,8 @@ pub enum ConfigFault {
     Flows,
     Pending,
     Periodic,
+    OpenIdle,
+    Settle,
 }
 
 impl fmt::Display for ConfigFault {

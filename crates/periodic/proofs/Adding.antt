@@ -9,7 +9,7 @@ use Rattle.minislots.specs.declared.config.Config.{Config}
 use Rattle.minislots.specs.Config.{IsLawful}
 use Rattle.sched_calls.specs.declared.spec.FlowSpec.{FlowSpec}
 use Rattle.sched_calls.specs.FlowSpec.{is_periodic, grants_of, first_fault}
-use Rattle.flow_book.proofs.Insertion.{all-put_in, ascends-put_in}
+use Rattle.sched_calls.proofs.Insertion.{all-put_in, ascends-put_in}
 use Rattle.sched_calls.specs.declared.placement.Placement.{Placement}
 use Rattle.periodic.specs.declared.TheConstants.{MAX_SPOTS}
 use Rattle.periodic.specs.declared.placement.Spot.{Spot}

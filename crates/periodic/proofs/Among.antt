@@ -5,7 +5,7 @@ use Rattle.std.proofs.Common.{if◌then◌else◌, arith}
 use Rattle.std.specs.List.{AllByRecursion, remove}
 use Rattle.std.proofs.lemmas.Bool.{eq-eqb}
 use Rattle.std.proofs.lemmas.List.{map-append, take-append-drop, drop_more}
-use Rattle.flow_book.proofs.Insertion.{all-put_in, length-put_in}
+use Rattle.sched_calls.proofs.Insertion.{all-put_in, length-put_in}
 use Rattle.periodic.specs.declared.group.Group.{Group}
 use Rattle.periodic.specs.declared.spots.PlacedFlow.{PlacedFlow}
 use Rattle.periodic.specs.Placement.{Placed}

@@ -9,7 +9,7 @@ use Rattle.std.proofs.lemmas.List.Elements.{All-from_recursion, recursion_from_A
 use Rattle.std.proofs.lemmas.List.Quantifiers.{position-Some}
 use Rattle.std.proofs.lemmas.List.Sums.{fails_before_first}
 use Rattle.minislots.specs.declared.config.Config.{Config}
-use Rattle.flow_book.proofs.Changes.{all-set}
+use Rattle.sched_calls.proofs.Insertion.{all-set}
 use Rattle.periodic.specs.declared.group.Group.{Group}
 use Rattle.periodic.specs.declared.placement.Spot.{Spot}
 use Rattle.periodic.specs.declared.spots.PlacedFlow.{PlacedFlow}

@@ -8,7 +8,7 @@ use Rattle.minislots.specs.declared.config.Config.{Config}
 use Rattle.sched_calls.specs.declared.spec.FlowSpec.{FlowSpec}
 use Rattle.sched_calls.specs.FlowSpec.{has_place_of, interval_frames, grants_of, first_fault}
 use Rattle.sched_calls.specs.declared.placement.Placement.{Placement}
-use Rattle.flow_book.proofs.Insertion.{all-put_in, ascends-put_in, length-put_in}
+use Rattle.sched_calls.proofs.Insertion.{all-put_in, ascends-put_in, length-put_in}
 use Rattle.periodic.specs.declared.bits.Bits.{Bits}
 use Rattle.periodic.specs.declared.group.Group.{Group}
 use Rattle.periodic.specs.declared.spots.PlacedFlow.{PlacedFlow}

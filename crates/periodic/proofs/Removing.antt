@@ -5,7 +5,7 @@ use Rattle.std.proofs.lemmas.Bool.{cond_both}
 use Rattle.std.proofs.lemmas.List.Sums.{sum_by-cons}
 use Rattle.minislots.specs.declared.config.Config.{Config}
 use Rattle.sched_calls.specs.FlowSpec.{grants_of}
-use Rattle.flow_book.proofs.Removal.{all-filter, ascends-filter}
+use Rattle.sched_calls.proofs.Removal.{all-filter, ascends-filter}
 use Rattle.periodic.specs.declared.placement.Spot.{Spot}
 use Rattle.periodic.specs.Placement.{Placed, spots_of, spots_in}
 use Rattle.periodic.specs.Table.{placed_grants, IsApart, AreApart, IsSoundPlaced, AreSound}

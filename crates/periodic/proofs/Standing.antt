@@ -1,6 +1,6 @@
 -- The fields of a table with one flow more, and without one.
 use Rattle.std.proofs.Common.{◌≡◌, sym, ap, subst, ℕ, ◌+◌, not, ◌==◌, List, length, map, find, Some, arith}
-use Rattle.flow_book.proofs.Insertion.{length-put_in}
+use Rattle.sched_calls.proofs.Insertion.{length-put_in}
 use Rattle.minislots.specs.declared.config.Config.{Config}
 use Rattle.periodic.specs.declared.bits.Bits.{Bits}
 use Rattle.periodic.specs.declared.group.Group.{Group}

@@ -1,7 +1,7 @@
 pub use Rattle.minislots.specs.Config
 pub use Rattle.minislots.specs.Units
 pub use Rattle.sched_calls.specs.FlowSpec
-pub use Rattle.flow_book.specs.Sids
+pub use Rattle.sched_calls.specs.Sids
 pub mod Placement
 pub mod Table
 pub mod Choice

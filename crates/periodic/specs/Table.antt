@@ -6,7 +6,7 @@ use Rattle.minislots.specs.declared.config.Config.{Config}
 use Rattle.sched_calls.specs.declared.spec.FlowSpec.{FlowSpec}
 use Rattle.sched_calls.specs.declared.placement.Placement.{Placement}
 use Rattle.sched_calls.specs.FlowSpec.{is_periodic, periodic_slots, grants_of, first_fault}
-use Rattle.flow_book.specs.Sids.{AscendBy, put_in, taken_out}
+use Rattle.sched_calls.specs.Sids.{AscendBy, put_in, taken_out}
 use Rattle.periodic.specs.declared.TheConstants.{MAX_SPOTS}
 use Rattle.periodic.specs.declared.placement.Spot.{Spot}
 use Rattle.periodic.specs.Placement.{Placed, offset_of, spots_in, HasLawfulStarts, IsPlacement}

@@ -5,6 +5,7 @@ use Rattle.std.proofs.Math.Nat.{mul-div_cancel, mul-mod_right, mod-eq-sub-mul-di
 use Rattle.std.proofs.lemmas.Bool.{cases_lt}
 use Rattle.std.proofs.lemmas.Grind.{get_or-set_at}
 use Rattle.std.proofs.lemmas.List.{take-append-le, take_all, length_push, length-set, get_or-set_other}
+use Rattle.minislots.specs.declared.config.Config.{Config}
 use Rattle.frame_picture.specs.Frames.{Frame}
 use Rattle.sched_report.specs.declared.slots.Slots.{Slots}
 use Rattle.report_picture.specs.declared.over_time.UseOverTime.{UseOverTime}
@@ -22,9 +23,9 @@ times-div n k some =
 whole-div : (n k : ℕ) → n % k ≡ 0 → k * (n / k) ≡ n
 whole-div n k none = omega (arith, mod-eq-sub-mul-div n k, mul-div-le n k, none)
 
-module _ (u : UseOverTime) (fs : List Frame) (start : ℕ) (is : IsReadyFor u fs) where
+module _ (c : Config) (u : UseOverTime) (fs : List Frame) (start : ℕ) (is : IsReadyFor c u fs) where
   -- where the next frame is not the first one of a step, nothing is noted
-  pub begun-between : (u.frames % u.width ≡ 0 → ⊥) → HasBegun u fs start
+  pub begun-between : (u.frames % u.width ≡ 0 → ⊥) → HasBegun c u fs start
   begun-between between = record {
     ready = is;
     first = λ i d here.
@@ -33,7 +34,7 @@ module _ (u : UseOverTime) (fs : List Frame) (start : ℕ) (is : IsReadyFor u fs
 
   -- where it is, its start is
   pub begun-at : u.frames % u.width ≡ 0
-      → HasBegun (record u { firsts = set u.firsts (u.frames / u.width) start }) fs start
+      → HasBegun c (record u { firsts = set u.firsts (u.frames / u.width) start }) fs start
   begun-at begins =
       let at = u.frames / u.width in
       let some : 0 < u.width = width-some (length fs + 1) u.width is.width in
@@ -65,9 +66,9 @@ module _ (u : UseOverTime) (fs : List Frame) (start : ℕ) (is : IsReadyFor u fs
             get_or-set_at u.firsts at i start d same (omega (arith, is.starts.long_firsts, few));
       }
 
-module _ (u : UseOverTime) (fs : List Frame) (f : Frame) (total : Slots) (start : ℕ) (begun : HasBegun u fs start)
-    (all : total ≡ use_in (fs ++ f ∷ [])) (starts : start ≡ f.built.start) where
-  is : IsReadyFor u fs
+module _ (c : Config) (u : UseOverTime) (fs : List Frame) (f : Frame) (total : Slots) (start : ℕ)
+    (begun : HasBegun c u fs start) (all : total ≡ use_in c (fs ++ f ∷ [])) (starts : start ≡ f.built.start) where
+  is : IsReadyFor c u fs
   is = begun.ready
 
   longer : length (fs ++ f ∷ []) ≡ length fs + 1
@@ -81,9 +82,9 @@ module _ (u : UseOverTime) (fs : List Frame) (f : Frame) (total : Slots) (start 
 
   -- a mark before the new frame stays
   before : (i : ℕ) (s : Slots) → u.width * i ≤ length fs
-      → get_or u.marks i s ≡ use_in (take (u.width * i) (fs ++ f ∷ []))
+      → get_or u.marks i s ≡ use_in c (take (u.width * i) (fs ++ f ∷ []))
   before i s within =
-      is.are.marks i s within ∙ ap use_in (sym (take-append-le (u.width * i) fs (f ∷ []) within))
+      is.are.marks i s within ∙ ap (use_in c) (sym (take-append-le (u.width * i) fs (f ∷ []) within))
 
   -- the new frame is the last one
   new_last : (k : ℕ) → k ≡ length fs → start ≡ start_of (fs ++ f ∷ []) k
@@ -108,7 +109,7 @@ module _ (u : UseOverTime) (fs : List Frame) (f : Frame) (total : Slots) (start 
 
   -- where the new frame ends no step, no mark stands behind it
   pub added-between : ((u.frames + 1) % u.width ≡ 0 → ⊥)
-      → IsOverTime (record u { frames = u.frames + 1; total = total; last = start }) (fs ++ f ∷ [])
+      → IsOverTime c (record u { frames = u.frames + 1; total = total; last = start }) (fs ++ f ∷ [])
   added-between between =
       let not_past : (i : ℕ) → u.width * i ≤ length (fs ++ f ∷ []) → u.width * i ≤ length fs = λ i within.
       elim (cases_lt (length fs) (u.width * i)) [
@@ -136,7 +137,7 @@ module _ (u : UseOverTime) (fs : List Frame) (f : Frame) (total : Slots) (start 
 
   -- where it ends one, the mark behind it is the use of all frames
   pub added-at : (u.frames + 1) % u.width ≡ 0
-      → IsOverTime (record u {
+      → IsOverTime c (record u {
         frames = u.frames + 1;
         total = total;
         last = start;
@@ -159,7 +160,7 @@ module _ (u : UseOverTime) (fs : List Frame) (f : Frame) (total : Slots) (start 
           marks = λ i s within. elim (cases_lt (length fs) (u.width * i)) [
             | inl past ↦
                 get_or-set_at u.marks at i total s (here i past within) (omega (arith, is.are.long, few)) ∙ all
-                ∙ ap use_in (sym (take_all (u.width * i) (fs ++ f ∷ []) (omega (arith, past, longer))))
+                ∙ ap (use_in c) (sym (take_all (u.width * i) (fs ++ f ∷ []) (omega (arith, past, longer))))
             | inr within ↦
                 get_or-set_other u.marks at i total s
                 (λ same. omega (arith, ap (λ k. u.width * k) same, end, within, is.are.count))

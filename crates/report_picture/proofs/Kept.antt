@@ -3,6 +3,7 @@ use Rattle.std.proofs.Common.{◌≡◌, ℕ, ◌-◌, ◌*◌, ◌<◌, ◌≤�
 use Rattle.std.proofs.Common.{get_or, ap, sym, refl, ◌∙◌, None, arith}
 use Rattle.std.proofs.Math.Nat.{two-pow-succ}
 use Rattle.std.proofs.lemmas.List.{take_all, length_push}
+use Rattle.minislots.specs.declared.config.Config.{Config}
 use Rattle.sched_calls.specs.declared.frame_map.FrameMap.{FrameMap}
 use Rattle.sched_calls.specs.declared.reply.Entry.{Entry}
 use Rattle.sched_calls.specs.declared.reply.TheConstants.{MAX_WHOLE_HISTORY}
@@ -43,8 +44,9 @@ no_map (replies.Flow asked granted outstanding) unbuilt = refl
 no_map (replies.Refused refusal) unbuilt = refl
 
 -- the steps are as wide as before, where one frame more has a step
-pub unwidened : (u : UseOverTime) (fs : List Frame) → IsOverTime u fs → u.frames < 800 * u.width → IsReadyFor u fs
-unwidened u fs is room = record {
+pub unwidened : (c : Config) (u : UseOverTime) (fs : List Frame) → IsOverTime c u fs → u.frames < 800 * u.width
+    → IsReadyFor c u fs
+unwidened c u fs is room = record {
   are = is.are;
   starts = is.starts;
   width = record {
@@ -56,13 +58,14 @@ unwidened u fs is room = record {
 }
 
 -- twice as wide, where it has none
-pub widened : (u : UseOverTime) (marks : List Slots) (firsts lasts : List ℕ) (fs : List Frame) → IsOverTime u fs
+pub widened : (c : Config) (u : UseOverTime) (marks : List Slots) (firsts lasts : List ℕ) (fs : List Frame)
+    → IsOverTime c u fs
     → 800 * u.width ≤ u.frames
     → length marks ≡ 801 → ((i : ℕ) (s : Slots) → i ≤ 400 → get_or marks i s ≡ get_or u.marks (2 * i) s)
     → length firsts ≡ 801 → ((i d : ℕ) → i ≤ 400 → get_or firsts i d ≡ get_or u.firsts (2 * i) d)
     → length lasts ≡ 801 → ((i d : ℕ) → i ≤ 400 → get_or lasts i d ≡ get_or u.lasts (2 * i) d)
-    → IsReadyFor (record u { width = u.width * 2; marks = marks; firsts = firsts; lasts = lasts }) fs
-widened u marks firsts lasts fs is full long each long_firsts each_first long_lasts each_last =
+    → IsReadyFor c (record u { width = u.width * 2; marks = marks; firsts = firsts; lasts = lasts }) fs
+widened c u marks firsts lasts fs is full long each long_firsts each_first long_lasts each_last =
     let w = u.width in
     let n : length fs ≡ 800 * w = omega (arith, full, is.are.count, is.width.enough) in
     let some : 0 < w = width-some (length fs) w is.width in
@@ -75,7 +78,7 @@ widened u marks firsts lasts fs is full long each long_firsts each_first long_la
             let same : w * 2 * i ≡ w * (2 * i) = omega arith in
             each i s (half-marks w i (length fs) some n within)
             ∙ is.are.marks (2 * i) s (omega (arith, within, same))
-            ∙ ap (λ k. use_in (take k fs)) (sym same);
+            ∙ ap (λ k. use_in c (take k fs)) (sym same);
       };
       starts = record {
         long_firsts = long_firsts;

@@ -1,5 +1,6 @@
 -- What a step tells, by what is kept.
 use Rattle.std.proofs.Common.{◌≡◌, ℕ, ◌+◌, ◌-◌, ◌*◌, ◌<◌, ◌≤◌, List, length, get_or, min, ap, sym, ◌∙◌, arith}
+use Rattle.minislots.specs.declared.config.Config.{Config}
 use Rattle.frame_picture.specs.Frames.{Frame}
 use Rattle.sched_report.specs.declared.slots.Slots.{Slots}
 use Rattle.sched_report.specs.Uses.{sum_of}
@@ -9,26 +10,26 @@ use Rattle.report_picture.specs.Kept.{IsOverTime}
 use Rattle.report_picture.proofs.Widths.{width-some}
 use Rattle.report_picture.proofs.Marks.{use-next, use-all, step-begins}
 
-module _ (u : UseOverTime) (fs : List Frame) (is : IsOverTime u fs) (i : ℕ) (s : Slots) where
+module _ (c : Config) (u : UseOverTime) (fs : List Frame) (is : IsOverTime c u fs) (i : ℕ) (s : Slots) where
   -- the use up to the mark behind a step
   pub rest-marked : (t : Slots) → u.width * (i + 1) ≤ u.frames → i < steps_of u.width u.frames
-      → get_or u.marks (i + 1) t ≡ sum_of (get_or u.marks i s) (use_in (frames_at u.width fs i))
+      → get_or u.marks (i + 1) t ≡ sum_of (get_or u.marks i s) (use_in c (frames_at u.width fs i))
   rest-marked t within below =
       let some = width-some (length fs) u.width is.width in
-      is.are.marks (i + 1) t (omega (arith, within, is.are.count)) ∙ use-next u.width fs i
-      ∙ ap (λ (b : Slots). sum_of b (use_in (frames_at u.width fs i)))
+      is.are.marks (i + 1) t (omega (arith, within, is.are.count)) ∙ use-next c u.width fs i
+      ∙ ap (λ (b : Slots). sum_of b (use_in c (frames_at u.width fs i)))
       (sym (is.are.marks i s (omega (arith, is.are.count, step-begins u.width u.frames i some below))))
 
   -- and where there is none, all use
   pub rest-last : u.frames < u.width * (i + 1) → i < steps_of u.width u.frames
-      → u.total ≡ sum_of (get_or u.marks i s) (use_in (frames_at u.width fs i))
+      → u.total ≡ sum_of (get_or u.marks i s) (use_in c (frames_at u.width fs i))
   rest-last past below =
       let some = width-some (length fs) u.width is.width in
-      is.are.total ∙ use-all u.width fs i (omega (arith, past, is.are.count))
-      ∙ ap (λ (b : Slots). sum_of b (use_in (frames_at u.width fs i)))
+      is.are.total ∙ use-all c u.width fs i (omega (arith, past, is.are.count))
+      ∙ ap (λ (b : Slots). sum_of b (use_in c (frames_at u.width fs i)))
       (sym (is.are.marks i s (omega (arith, is.are.count, step-begins u.width u.frames i some below))))
 
-module _ (u : UseOverTime) (fs : List Frame) (is : IsOverTime u fs) (i d : ℕ) where
+module _ (c : Config) (u : UseOverTime) (fs : List Frame) (is : IsOverTime c u fs) (i d : ℕ) where
   -- where the first frame of a step starts
   pub first-told : i < steps_of u.width u.frames → get_or u.firsts i d ≡ start_of fs (u.width * i)
   first-told below =

@@ -1,5 +1,5 @@
 -- The head of a picture: how its parts look, its title, and what each look is for.
-use Rattle.std.specs.Prelude.{ℕ, ◌+◌, ◌-◌, ◌*◌, ◌/◌, max, List, [], ◌∷◌, ◌++◌, codes, Option, None, Some}
+use Rattle.std.specs.Prelude.{ℕ, ◌+◌, ◌-◌, ◌*◌, ◌/◌, max, if◌then◌else◌, List, [], ◌∷◌, ◌++◌, codes, Option, None, Some}
 use Rattle.sched_report.specs.declared.slots.Slots.{Slots}
 use Rattle.sched_report.specs.declared.totals.Totals.{Totals}
 use Rattle.sched_report.specs.Uses.{all_slots}
@@ -105,15 +105,25 @@ unfoldable pub last_keys : Slots → List ℕ
 last_keys s =
     key_text
     (codes
-    "<path class='key opportunity' d='M590 60h28v16h-28z'/><text x='626' y='73'>opportunity to range ~ %</text>\n")
+    "<path class='key opportunity' d='M590 60h28v16h-28z'/><text x='626' y='73'>opportunities ~ %</text>\n")
     s.opportunity (all_slots s)
     ++ (key_text (codes "<path class='key data' d='M836 60h28v16h-28z'/><text x='872' y='73'>data grants ~ %</text>\n")
     s.data_grants (all_slots s)
     ++ key_text (codes "<path class='key idle' d='M1020 60h28v16h-28z'/><text x='1056' y='73'>idle ~ %</text>\n")
     s.idle (all_slots s))
 
+-- that of open idles, where idles are open
+unfoldable pub open_key : Totals → List ℕ
+open_key t =
+    if t.opens then
+    codes "<style>.open{fill:#b39ddb}</style>"
+    ++ key_text
+    (codes "<path class='key open' d='M1140 60h28v16h-28z'/><text x='1176' y='73'>open idle ~ %</text>\n")
+    t.slots.open_idle (all_slots t.slots)
+    else []
+
 -- the head of a picture in which so many ranks have delays
 unfoldable pub head_text : Course → Totals → ℕ → List ℕ
 head_text c t ranks =
     size_text ranks ++ (style_text ++ (request_patterns ++ (other_patterns
-    ++ (title_text c t ++ (first_keys t.slots ++ last_keys t.slots)))))
+    ++ (title_text c t ++ (first_keys t.slots ++ (last_keys t.slots ++ open_key t))))))

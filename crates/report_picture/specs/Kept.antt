@@ -1,5 +1,6 @@
 -- What is kept of the use of minislots over time.
 use Rattle.std.specs.Prelude.{◌≡◌, ℕ, ◌+◌, ◌-◌, ◌*◌, ◌<◌, ◌≤◌, List, take, length, slice_index_or}
+use Rattle.minislots.specs.declared.config.Config.{Config}
 use Rattle.sched_calls.specs.declared.reply.Entry.{Entry}
 use Rattle.sched_calls.specs.declared.reply.TheConstants.{MAX_WHOLE_HISTORY}
 use Rattle.frame_picture.specs.Frames.{Frame, frames_of}
@@ -8,12 +9,12 @@ use Rattle.report_picture.specs.declared.over_time.UseOverTime.{UseOverTime}
 use Rattle.report_picture.specs.OverTime.{use_in, start_of, IsWidth}
 
 -- The frames are counted, and each mark is the use of all of them before its step
-pub record AreMarks (u : UseOverTime) (fs : List Frame) : Type 0 where
+pub record AreMarks (c : Config) (u : UseOverTime) (fs : List Frame) : Type 0 where
   pub count : u.frames ≡ length fs
   pub long : length u.marks ≡ 801
-  pub total : u.total ≡ use_in fs
+  pub total : u.total ≡ use_in c fs
   pub marks : (i : ℕ) (s : Slots) → u.width * i ≤ length fs
-      → slice_index_or u.marks i s ≡ use_in (take (u.width * i) fs)
+      → slice_index_or u.marks i s ≡ use_in c (take (u.width * i) fs)
 
 -- It is told where the last frame starts, the first one of each step, and the one before each mark
 pub record AreStarts (u : UseOverTime) (fs : List Frame) : Type 0 where
@@ -25,23 +26,23 @@ pub record AreStarts (u : UseOverTime) (fs : List Frame) : Type 0 where
       → slice_index_or u.lasts i d ≡ start_of fs (u.width * i - 1)
 
 -- The steps have the width that so many frames have
-pub record IsOverTime (u : UseOverTime) (fs : List Frame) : Type 0 where
-  pub are : AreMarks u fs
+pub record IsOverTime (c : Config) (u : UseOverTime) (fs : List Frame) : Type 0 where
+  pub are : AreMarks c u fs
   pub starts : AreStarts u fs
   pub width : IsWidth (length fs) u.width
 
 -- The use is that of the frames of a history, which is no longer than one may be
-pub record IsTimed (u : UseOverTime) (h : List Entry) : Type 0 where
-  pub over_time : IsOverTime u (frames_of h)
+pub record IsTimed (c : Config) (u : UseOverTime) (h : List Entry) : Type 0 where
+  pub over_time : IsOverTime c u (frames_of h)
   pub short : length h ≤ MAX_WHOLE_HISTORY
 
 -- The steps have the width that one frame more has
-pub record IsReadyFor (u : UseOverTime) (fs : List Frame) : Type 0 where
-  pub are : AreMarks u fs
+pub record IsReadyFor (c : Config) (u : UseOverTime) (fs : List Frame) : Type 0 where
+  pub are : AreMarks c u fs
   pub starts : AreStarts u fs
   pub width : IsWidth (length fs + 1) u.width
 
 -- And where that frame is the first one of a step, it is told where it starts
-pub record HasBegun (u : UseOverTime) (fs : List Frame) (start : ℕ) : Type 0 where
-  pub ready : IsReadyFor u fs
+pub record HasBegun (c : Config) (u : UseOverTime) (fs : List Frame) (start : ℕ) : Type 0 where
+  pub ready : IsReadyFor c u fs
   pub first : (i d : ℕ) → u.width * i ≡ length fs → slice_index_or u.firsts i d ≡ start

@@ -2,20 +2,22 @@
 use Rattle.std.specs.Prelude.{◌≡◌, ℕ, ◌+◌, ◌-◌, ◌*◌, ◌/◌, ◌^◌, ◌<◌, ◌≤◌, List, take, drop, length, map, flat_map}
 use Rattle.std.specs.Prelude.{sum_by, min, slice_index_or}
 use Rattle.std.specs.List.{range_with_len}
+use Rattle.minislots.specs.declared.config.Config.{Config}
 use Rattle.frame_picture.specs.Frames.{Frame}
 use Rattle.sched_report.specs.declared.slots.Slots.{Slots}
 use Rattle.sched_report.specs.Uses.{slots_in}
 use Rattle.report_picture.specs.declared.over_time.Step.{Step}
 
--- the minislots of some frames by their use
-abbrev pub use_in : List Frame → Slots
-use_in fs = record {
-  data_grants = sum_by (λ f. (slots_in f).data_grants) fs;
-  idle = sum_by (λ f. (slots_in f).idle) fs;
-  opportunity = sum_by (λ f. (slots_in f).opportunity) fs;
-  poll = sum_by (λ f. (slots_in f).poll) fs;
-  request = sum_by (λ f. (slots_in f).request) fs;
-  unsolicited = sum_by (λ f. (slots_in f).unsolicited) fs;
+-- the minislots of some frames by their use, under this configuration
+abbrev pub use_in : Config → List Frame → Slots
+use_in c fs = record {
+  data_grants = sum_by (λ f. (slots_in c f).data_grants) fs;
+  idle = sum_by (λ f. (slots_in c f).idle) fs;
+  open_idle = sum_by (λ f. (slots_in c f).open_idle) fs;
+  opportunity = sum_by (λ f. (slots_in c f).opportunity) fs;
+  poll = sum_by (λ f. (slots_in c f).poll) fs;
+  request = sum_by (λ f. (slots_in c f).request) fs;
+  unsolicited = sum_by (λ f. (slots_in c f).unsolicited) fs;
 }
 
 -- where the frame with a number starts, which is counted from 0
@@ -31,16 +33,16 @@ abbrev pub steps_of : ℕ → ℕ → ℕ
 steps_of width n = (n + (width - 1)) / width
 
 -- the step at a place: where its first and its last frame start, and the minislots of all its frames by their use
-abbrev pub step_at : ℕ → List Frame → ℕ → Step
-step_at width fs i = record {
+abbrev pub step_at : Config → ℕ → List Frame → ℕ → Step
+step_at c width fs i = record {
   first = start_of fs (width * i);
   last = start_of fs (min (width * (i + 1)) (length fs) - 1);
-  slots = use_in (frames_at width fs i);
+  slots = use_in c (frames_at width fs i);
 }
 
 -- all steps
-abbrev pub all_steps : ℕ → List Frame → List Step
-all_steps width fs = map (step_at width fs) (range_with_len 0 (steps_of width (length fs)))
+abbrev pub all_steps : Config → ℕ → List Frame → List Step
+all_steps c width fs = map (step_at c width fs) (range_with_len 0 (steps_of width (length fs)))
 
 -- So many frames have steps of this width: the least power of two with which there are no more than 800 of them
 pub record IsWidth (n width : ℕ) : Type 0 where

@@ -48,6 +48,7 @@ course_of c t frames width = record {
   width = width;
   from = or_zero t.from;
   span = or_zero t.to - or_zero t.from;
+  opens = t.opens;
 }
 
 -- The text is the picture of the report on a history
@@ -58,4 +59,4 @@ pub record IsReportPicture (c : Config) (h : List Entry) (text : List ℕ) : Typ
   pub are_ranks : AreRanksTold c h ranks
   pub text_is : text
       ≡ report_text (course_of c (totals_of c h) (length (frames_of h)) width) (totals_of c h)
-      (all_steps width (frames_of h)) ranks
+      (all_steps c width (frames_of h)) ranks

@@ -2,6 +2,7 @@
 
 ghost use Rattle.std.specs.Prelude.{◌≡◌, ◌<◌, ◌≤◌, ◌^◌, length};
 ghost use Rattle.report_picture.specs.Areas.{look_of, slots_upto, edge_text, edges_text, area_text, areas_text};
+ghost use Rattle.report_picture.specs.Areas.{open_area, open_told};
 ghost use Rattle.report_picture.specs.Areas.{begin_place, end_place, stretch_text, slots_text, step_text, steps_text};
 ghost use Rattle.text_stream.specs.Writing.{Puts};
 
@@ -23,6 +24,7 @@ fn look_of(kind: Use) -> &'static [u8]
         Use::Unsolicited => b"unsolicited",
         Use::Opportunity => b"opportunity",
         Use::Data => b"data",
+        Use::Open => b"open",
         Use::Idle => b"idle",
     }
 }
@@ -38,13 +40,15 @@ fn slots_upto(kind: Use, slots: Slots) -> u128
     let unsolicited = poll + u128::from(slots.unsolicited);
     let opportunity = unsolicited + u128::from(slots.opportunity);
     let data = opportunity + u128::from(slots.data_grants);
+    let open_idle = data + u128::from(slots.open_idle);
     match kind {
         Use::Request => request,
         Use::Poll => poll,
         Use::Unsolicited => unsolicited,
         Use::Opportunity => opportunity,
         Use::Data => data,
-        Use::Idle => data + u128::from(slots.idle),
+        Use::Open => open_idle,
+        Use::Idle => open_idle + u128::from(slots.idle),
     }
 }
 
@@ -123,6 +127,24 @@ fn put_area<W: Sink>(
     lines.put(writer, b"z'/>\n")
 }
 
+// Open idles, where idles are open.
+fn put_open_area<W: Sink>(
+    lines: &mut TextBuffer,
+    writer: &mut W,
+    course: Course,
+    steps: &[Step],
+) -> Result<(), TextFault>
+    requires most { length steps.now ≤ 800 }
+    requires narrow { course.width ≤ 2 ^ 45 }
+    ensures { Puts W.contents W.has_failed writer.old writer.new lines.old lines.new
+        (open_area course steps.now) result }
+{
+    if !course.opens {
+        return Ok(());
+    }
+    put_area(lines, writer, course, Use::Open, steps)
+}
+
 // All uses: each one hides what stands below it of those above.
 #[tactic(auto, unfolding(crate::specs::Areas::areas_text))]
 pub(crate) fn put_areas<W: Sink>(
@@ -137,6 +159,7 @@ pub(crate) fn put_areas<W: Sink>(
         (areas_text course steps.now) result }
 {
     put_area(lines, writer, course, Use::Idle, steps)?;
+    put_open_area(lines, writer, course, steps)?;
     put_area(lines, writer, course, Use::Data, steps)?;
     put_area(lines, writer, course, Use::Opportunity, steps)?;
     put_area(lines, writer, course, Use::Unsolicited, steps)?;
@@ -161,7 +184,7 @@ fn put_step<W: Sink>(
 {
     let step = steps[i];
     put_stretch(lines, writer, course, step, i)?;
-    put_slots(lines, writer, step.slots)
+    put_slots(lines, writer, course.opens, step.slots)
 }
 
 // From which frame to which a step reaches, and from when to when.
@@ -200,24 +223,48 @@ fn put_stretch<W: Sink>(
     )
 }
 
+// How many minislots are open idles, where idles are open.
+fn put_open_told<W: Sink>(
+    lines: &mut TextBuffer,
+    writer: &mut W,
+    opens: bool,
+    slots: u64,
+) -> Result<(), TextFault>
+    ensures { Puts W.contents W.has_failed writer.old writer.new lines.old lines.new
+        (open_told opens slots) result }
+{
+    if !opens {
+        return Ok(());
+    }
+    put_filled(lines, writer, b", open idle @", &[u128::from(slots)])
+}
+
 // What the minislots of a step are for.
 #[tactic(auto, unfolding(crate::specs::Areas::slots_text))]
-fn put_slots<W: Sink>(lines: &mut TextBuffer, writer: &mut W, slots: Slots) -> Result<(), TextFault>
+fn put_slots<W: Sink>(
+    lines: &mut TextBuffer,
+    writer: &mut W,
+    opens: bool,
+    slots: Slots,
+) -> Result<(), TextFault>
     ensures { Puts W.contents W.has_failed writer.old writer.new lines.old lines.new
-        (slots_text slots) result }
+        (slots_text opens slots) result }
 {
+    let numbers = [
+        u128::from(slots.request),
+        u128::from(slots.poll),
+        u128::from(slots.unsolicited),
+        u128::from(slots.opportunity),
+        u128::from(slots.data_grants),
+    ];
+    let template = b"request region @, polls @, unsolicited @, opportunities @, data grants @";
+    put_filled(lines, writer, template, &numbers)?;
+    put_open_told(lines, writer, opens, slots.open_idle)?;
     put_filled(
         lines,
         writer,
-        b"request region @, polls @, unsolicited @, opportunities @, data grants @, idle @</title></path>\n",
-        &[
-            u128::from(slots.request),
-            u128::from(slots.poll),
-            u128::from(slots.unsolicited),
-            u128::from(slots.opportunity),
-            u128::from(slots.data_grants),
-            u128::from(slots.idle),
-        ],
+        b", idle @</title></path>\n",
+        &[u128::from(slots.idle)],
     )
 }
 

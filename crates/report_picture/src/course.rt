@@ -22,6 +22,8 @@ pub struct Course {
     pub from: u64,
     /// The minislots from there to the end of the last one.
     pub span: u64,
+    /// Whether idles are open to requests.
+    pub opens: bool,
 }
 
 // The number of the first frame of a step.

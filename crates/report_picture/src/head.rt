@@ -8,7 +8,7 @@ ghost use Rattle.text_stream.specs.Writing.{Puts};
 use crate::axis::microseconds;
 use crate::course::Course;
 use crate::filled::put_filled;
-use crate::legend::{put_first_keys, put_last_keys};
+use crate::legend::{put_first_keys, put_last_keys, put_open_key};
 use sched_report::Totals;
 use text_stream::{Sink, TextBuffer, TextFault};
 
@@ -227,5 +227,6 @@ pub(crate) fn put_head<W: Sink>(
     put_other_patterns(lines, writer)?;
     put_title(lines, writer, course, totals)?;
     put_first_keys(lines, writer, &totals.slots)?;
-    put_last_keys(lines, writer, &totals.slots)
+    put_last_keys(lines, writer, &totals.slots)?;
+    put_open_key(lines, writer, totals)
 }

@@ -2,12 +2,12 @@
 
 ghost use Rattle.std.specs.Prelude.{◌≡◌, ◌<◌, ◌^◌};
 ghost use Rattle.sched_report.specs.Uses.{all_slots};
-ghost use Rattle.report_picture.specs.Head.{key_text, first_keys, last_keys};
+ghost use Rattle.report_picture.specs.Head.{key_text, first_keys, last_keys, open_key};
 ghost use Rattle.text_stream.specs.Writing.{Puts};
 
 use crate::axis::place;
 use crate::filled::put_filled;
-use sched_report::Slots;
+use sched_report::{Slots, Totals};
 use text_stream::{Sink, TextBuffer, TextFault};
 
 // The minislots of all uses together.
@@ -16,6 +16,7 @@ pub(crate) fn all_slots(slots: &Slots) -> u128
 {
     u128::from(slots.data_grants)
         + u128::from(slots.idle)
+        + u128::from(slots.open_idle)
         + u128::from(slots.opportunity)
         + u128::from(slots.poll)
         + u128::from(slots.request)
@@ -71,7 +72,7 @@ pub(crate) fn put_last_keys<W: Sink>(
 {
     let all = all_slots(slots);
     let opportunity =
-        b"<path class='key opportunity' d='M590 60h28v16h-28z'/><text x='626' y='73'>opportunity to range ~ %</text>\n";
+        b"<path class='key opportunity' d='M590 60h28v16h-28z'/><text x='626' y='73'>opportunities ~ %</text>\n";
     put_key(lines, writer, opportunity, slots.opportunity, all)?;
     let data =
         b"<path class='key data' d='M836 60h28v16h-28z'/><text x='872' y='73'>data grants ~ %</text>\n";
@@ -79,4 +80,24 @@ pub(crate) fn put_last_keys<W: Sink>(
     let idle =
         b"<path class='key idle' d='M1020 60h28v16h-28z'/><text x='1056' y='73'>idle ~ %</text>\n";
     put_key(lines, writer, idle, slots.idle, all)
+}
+
+// The key of open idles, where idles are open.
+#[tactic(auto, unfolding(crate::specs::Head::open_key))]
+pub(crate) fn put_open_key<W: Sink>(
+    lines: &mut TextBuffer,
+    writer: &mut W,
+    totals: &Totals,
+) -> Result<(), TextFault>
+    ensures { Puts W.contents W.has_failed writer.old writer.new lines.old lines.new
+        (open_key totals.now) result }
+{
+    if !totals.opens {
+        return Ok(());
+    }
+    let all = all_slots(&totals.slots);
+    lines.put(writer, b"<style>.open{fill:#b39ddb}</style>")?;
+    let open_idle =
+        b"<path class='key open' d='M1140 60h28v16h-28z'/><text x='1176' y='73'>open idle ~ %</text>\n";
+    put_key(lines, writer, open_idle, totals.slots.open_idle, all)
 }

@@ -2,6 +2,7 @@
 
 ghost use Rattle.std.specs.Prelude.{◌≡◌, ◌+◌, ◌-◌, ◌*◌, ◌^◌, ◌<◌, ◌≤◌, ◌++◌, ◌∷◌, [], List, ℕ, length, min};
 ghost use Rattle.std.specs.Prelude.{slice_index_or};
+ghost use Rattle.minislots.specs.declared.config.Config.{Config};
 ghost use Rattle.frame_picture.specs.Frames.{Frame};
 ghost use Rattle.sched_report.specs.declared.slots.Slots.{Slots as Uses};
 ghost use Rattle.sched_report.specs.Uses.{sum_of};
@@ -19,6 +20,7 @@ pub const MOST_STEPS: usize = 800;
 pub(crate) const NO_SLOTS: Slots = Slots {
     data_grants: 0,
     idle: 0,
+    open_idle: 0,
     opportunity: 0,
     poll: 0,
     request: 0,
@@ -89,6 +91,7 @@ fn rest_of(all: Slots, before: Slots) -> Slots
     Slots {
         data_grants: all.data_grants - before.data_grants,
         idle: all.idle - before.idle,
+        open_idle: all.open_idle - before.open_idle,
         opportunity: all.opportunity - before.opportunity,
         poll: all.poll - before.poll,
         request: all.request - before.request,
@@ -99,7 +102,7 @@ fn rest_of(all: Slots, before: Slots) -> Slots
 impl UseOverTime {
     // That of no frames.
     pub(crate) fn none() -> UseOverTime
-        ensures { IsOverTime result [] }
+        ensures { (c : Config) → IsOverTime c result [] }
     {
         UseOverTime {
             width: 1,
@@ -114,8 +117,9 @@ impl UseOverTime {
 
     // Makes the steps twice as wide, where one frame more has no step.
     fn widen(&mut self)
-        requires { (fs : List Frame) × IsOverTime self.old fs × (length fs < 2 ^ 45) }
-        ensures { (fs : List Frame) → IsOverTime self.old fs → IsReadyFor self.new fs }
+        requires { (c : Config) × (fs : List Frame) × IsOverTime c self.old fs × (length fs < 2 ^ 45) }
+        ensures { (c : Config) (fs : List Frame)
+            → IsOverTime c self.old fs → IsReadyFor c self.new fs }
     {
         if self.frames < 800 * self.width {
             return;
@@ -128,8 +132,9 @@ impl UseOverTime {
 
     // Notes where the next frame starts, where it is the first one of a step.
     fn begin(&mut self, start: u64)
-        requires { (fs : List Frame) × IsReadyFor self.old fs × (length fs < 2 ^ 45) }
-        ensures { (fs : List Frame) → IsReadyFor self.old fs → HasBegun self.new fs start }
+        requires { (c : Config) × (fs : List Frame) × IsReadyFor c self.old fs × (length fs < 2 ^ 45) }
+        ensures { (c : Config) (fs : List Frame)
+            → IsReadyFor c self.old fs → HasBegun c self.new fs start }
     {
         if self.frames % self.width == 0 {
             self.firsts[(self.frames / self.width) as usize] = start;
@@ -138,10 +143,10 @@ impl UseOverTime {
 
     // Counts one frame more, which starts there, where this is the use of all frames with it.
     pub(crate) fn add(&mut self, total: Slots, start: u64)
-        requires { (fs : List Frame) × IsOverTime self.old fs × (length fs < 2 ^ 45) }
-        ensures { (fs : List Frame) (f : Frame) → IsOverTime self.old fs
-            → total ≡ use_in (fs ++ f ∷ []) → start ≡ f.built.start
-            → IsOverTime self.new (fs ++ f ∷ []) }
+        requires { (c : Config) × (fs : List Frame) × IsOverTime c self.old fs × (length fs < 2 ^ 45) }
+        ensures { (c : Config) (fs : List Frame) (f : Frame) → IsOverTime c self.old fs
+            → total ≡ use_in c (fs ++ f ∷ []) → start ≡ f.built.start
+            → IsOverTime c self.new (fs ++ f ∷ []) }
     {
         self.widen();
         self.begin(start);
@@ -157,7 +162,7 @@ impl UseOverTime {
 
     // How many steps there are.
     pub(crate) fn steps(&self) -> usize
-        requires { (fs : List Frame) × IsOverTime self.now fs × (length fs < 2 ^ 46) }
+        requires { (c : Config) × (fs : List Frame) × IsOverTime c self.now fs × (length fs < 2 ^ 46) }
         ensures value { result ≡ steps_of self.now.width self.now.frames }
         ensures most { result ≤ 800 }
     {
@@ -166,10 +171,10 @@ impl UseOverTime {
 
     // The use of the step at a place.
     fn slots(&self, i: usize) -> Slots
-        requires { (fs : List Frame) × IsOverTime self.now fs × (length fs < 2 ^ 46)
+        requires { (c : Config) × (fs : List Frame) × IsOverTime c self.now fs × (length fs < 2 ^ 46)
             × (i < steps_of self.now.width self.now.frames) }
-        ensures { (fs : List Frame) → IsOverTime self.now fs
-            → result ≡ use_in (frames_at self.now.width fs i) }
+        ensures { (c : Config) (fs : List Frame) → IsOverTime c self.now fs
+            → result ≡ use_in c (frames_at self.now.width fs i) }
     {
         let behind = self.width * (i as u64 + 1);
         let all = if behind <= self.frames {
@@ -182,9 +187,9 @@ impl UseOverTime {
 
     // Where the last frame of the step at a place starts.
     fn last(&self, i: usize) -> u64
-        requires { (fs : List Frame) × IsOverTime self.now fs × (length fs < 2 ^ 46)
+        requires { (c : Config) × (fs : List Frame) × IsOverTime c self.now fs × (length fs < 2 ^ 46)
             × (i < steps_of self.now.width self.now.frames) }
-        ensures { (fs : List Frame) → IsOverTime self.now fs
+        ensures { (c : Config) (fs : List Frame) → IsOverTime c self.now fs
             → result ≡ start_of fs (min (self.now.width * (i + 1)) (length fs) - 1) }
     {
         if self.width * (i as u64 + 1) <= self.frames {
@@ -196,10 +201,10 @@ impl UseOverTime {
 
     // The step at a place.
     pub(crate) fn step(&self, i: usize) -> Step
-        requires { (fs : List Frame) × IsOverTime self.now fs × (length fs < 2 ^ 46)
+        requires { (c : Config) × (fs : List Frame) × IsOverTime c self.now fs × (length fs < 2 ^ 46)
             × (i < steps_of self.now.width self.now.frames) }
-        ensures { (fs : List Frame) → IsOverTime self.now fs
-            → result ≡ step_at self.now.width fs i }
+        ensures { (c : Config) (fs : List Frame) → IsOverTime c self.now fs
+            → result ≡ step_at c self.now.width fs i }
     {
         Step {
             first: self.firsts[i],
@@ -210,9 +215,9 @@ impl UseOverTime {
 
     // All steps.
     pub(crate) fn all_steps(&self) -> Few<Step, MOST_STEPS>
-        requires { (fs : List Frame) × IsOverTime self.now fs × (length fs < 2 ^ 46) }
-        ensures { (fs : List Frame) → IsOverTime self.now fs
-            → result ≡ all_steps self.now.width fs }
+        requires { (c : Config) × (fs : List Frame) × IsOverTime c self.now fs × (length fs < 2 ^ 46) }
+        ensures { (c : Config) (fs : List Frame) → IsOverTime c self.now fs
+            → result ≡ all_steps c self.now.width fs }
     {
         let mut steps = Few::none(NO_STEP);
         for i in 0..self.steps() {

@@ -3,6 +3,7 @@
 ghost use Rattle.std.specs.Prelude.{◌≡◌, ◌≤◌, ◌<◌, ◌^◌, List, ℕ, length};
 ghost use Rattle.report_picture.specs.Picture.{no_frames_text, use_text, report_text, course_of, IsReportPicture};
 ghost use Rattle.report_picture.specs.Kept.{IsOverTime};
+ghost use Rattle.minislots.specs.declared.config.Config.{Config};
 ghost use Rattle.frame_picture.specs.Frames.{Frame};
 ghost use Rattle.text_stream.specs.Writing.{Puts, Writes};
 
@@ -101,7 +102,8 @@ fn write_report<W: Sink>(
 
 // The course of the frames that were taken, whose numbers these are, under this configuration.
 fn course_of(config: &Checked, totals: &Totals, over_time: &UseOverTime) -> Course
-    requires { (fs : List Frame) × IsOverTime over_time.now fs × (length fs ≤ 2 ^ 44) }
+    requires { (c : Config) × (fs : List Frame) × IsOverTime c over_time.now fs
+        × (length fs ≤ 2 ^ 44) }
     ensures value { result ≡
         course_of config.now totals.now over_time.now.frames over_time.now.width }
     ensures narrow { result.width ≤ 2 ^ 45 }
@@ -114,6 +116,7 @@ fn course_of(config: &Checked, totals: &Totals, over_time: &UseOverTime) -> Cour
         width: over_time.width,
         from,
         span: totals.to.unwrap_or(0).saturating_sub(from),
+        opens: totals.opens,
     }
 }
 

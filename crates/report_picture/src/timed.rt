@@ -31,7 +31,8 @@ impl Model for TimedReporter {
 
     ghost view = { λ r. r.reporter };
 
-    ghost invariant = { λ r. IsTimed r.over_time.value r.reporter.history };
+    ghost invariant = { λ r.
+        IsTimed r.reporter.config r.over_time.value r.reporter.history };
 }
 
 impl TimedReporter {
@@ -81,7 +82,7 @@ impl TimedReporter {
 
     // The use of minislots over time.
     pub(crate) fn over_time(&self) -> &UseOverTime
-        ensures told { IsOverTime result.now (frames_of self.now.history) }
+        ensures told { IsOverTime self.now.config result.now (frames_of self.now.history) }
         ensures short { length (frames_of self.now.history) ≤ 2 ^ 44 }
     {
         &self.over_time

@@ -1,5 +1,5 @@
 -- The numbers of a report as OpenMetrics: those of the channel, and the whole text.
-use Rattle.std.specs.Prelude.{◌≡◌, ℕ, ◌+◌, List, ◌++◌, flat_map, length, codes, slice_index}
+use Rattle.std.specs.Prelude.{◌≡◌, ℕ, ◌+◌, Bool, if◌then◌else◌, List, [], ◌++◌, flat_map, length, codes, slice_index}
 use Rattle.std.specs.List.{range_with_len}
 use Rattle.minislots.specs.declared.config.Config.{Config}
 use Rattle.sched_calls.specs.declared.reply.Entry.{Entry}
@@ -82,24 +82,29 @@ unfoldable pub use_sample : ℕ → List ℕ → ℕ → List ℕ
 use_sample ticks name minislots =
     time_sample ticks (codes "mapsched_use_seconds_total") (label (codes "use") name) minislots
 
+-- of open idles, where idles are open
+abbrev pub open_sample : ℕ → Bool → ℕ → List ℕ
+open_sample ticks opens minislots = if opens then use_sample ticks (codes "open") minislots else []
+
 -- of all uses
-unfoldable pub use_samples : ℕ → Slots → List ℕ
-use_samples ticks s =
+unfoldable pub use_samples : ℕ → Bool → Slots → List ℕ
+use_samples ticks opens s =
     use_sample ticks (codes "data") s.data_grants ++ (use_sample ticks (codes "idle") s.idle
+    ++ (open_sample ticks opens s.open_idle
     ++ (use_sample ticks (codes "opportunity") s.opportunity ++ (use_sample ticks (codes "poll") s.poll
-    ++ (use_sample ticks (codes "request") s.request ++ use_sample ticks (codes "unsolicited") s.unsolicited))))
+    ++ (use_sample ticks (codes "request") s.request ++ use_sample ticks (codes "unsolicited") s.unsolicited)))))
 
 -- the minislots of all frames by their use
-unfoldable pub use_metrics : ℕ → Slots → List ℕ
-use_metrics ticks s =
+unfoldable pub use_metrics : ℕ → Bool → Slots → List ℕ
+use_metrics ticks opens s =
     heading (codes "mapsched_use_seconds") (codes "counter") Seconds (codes "Time of the minislots of all frames by use.")
-    ++ use_samples ticks s
+    ++ use_samples ticks opens s
 
 -- the numbers of the channel
 unfoldable pub channel_metrics : ℕ → Totals → List ℕ → List ℕ
 channel_metrics ticks t refused =
     frames_metrics t ++ (reach_metrics ticks t ++ (calls_metrics t.calls ++ (refusals_metrics refused
-    ++ use_metrics ticks t.slots)))
+    ++ use_metrics ticks t.opens t.slots)))
 
 -- all of them, where a minislot has so many ticks
 unfoldable pub metrics_text : ℕ → Totals → List ℕ → List RankTold → List LifeNumbers → List ℕ

@@ -84,12 +84,13 @@ calls_data c = object (
     member (codes "skip") (count c.skip) (member (codes "status") (count c.status) (
     with_given (codes "wake") (told_above_0 c.wake) no_members)))))))))))))
 
--- the minislots of each use
-unfoldable pub use_data : Slots → Data
-use_data s = object (
+-- the minislots of each use, with those of open idles or without
+unfoldable pub use_data : Bool → Slots → Data
+use_data opens s = object (
     member (codes "data") (count s.data_grants) (member (codes "idle") (count s.idle) (
+    with_given (codes "open") (told_if opens s.open_idle) (
     member (codes "opportunity") (count s.opportunity) (member (codes "poll") (count s.poll) (
-    member (codes "request") (count s.request) (member (codes "unsolicited") (count s.unsolicited) no_members))))))
+    member (codes "request") (count s.request) (member (codes "unsolicited") (count s.unsolicited) no_members)))))))
 
 -- a member for the refusals with the number at a place, which are counted from 1, where there are any
 abbrev pub with_refusals : ℕ → ℕ → Members → Members
@@ -127,7 +128,7 @@ report_data t refused lives ranks = object (
     member (codes "priorities") (ranks_data (tells_replaced t) ranks) (
     member (codes "refused") (refused_data refused) (
     member (codes "skips") (count t.skips) (member (codes "to") (maybe_data t.to) (
-    member (codes "use") (use_data t.slots) no_members)))))))))
+    member (codes "use") (use_data t.opens t.slots) no_members)))))))))
 
 -- its text: without a space, and ended by one newline
 unfoldable pub report_text : Totals → List ℕ → List LifeNumbers → List RankTold → List ℕ

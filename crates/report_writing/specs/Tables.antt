@@ -66,11 +66,16 @@ last_uses s all c =
     ++ (use_line (codes "data") s.data_grants all (codes "build") c.build
     ++ use_line (codes "idle") s.idle all (codes "skip") c.skip)
 
+-- the call beside which open idles are told, where idles are open
+abbrev pub reserve_line : Bool → Slots → ℕ → Calls → List ℕ
+reserve_line opens s all c =
+    if opens then use_line (codes "open") s.open_idle all (codes "reserve") c.reserve
+    else call_line (codes "reserve") c.reserve
+
 -- the other calls
-unfoldable pub last_calls : Calls → List ℕ
-last_calls c =
-    call_line (codes "reserve") c.reserve ++ (call_line (codes "header") c.header
-    ++ call_line (codes "status") c.status)
+unfoldable pub last_calls : Bool → Slots → ℕ → Calls → List ℕ
+last_calls opens s all c =
+    reserve_line opens s all c ++ (call_line (codes "header") c.header ++ call_line (codes "status") c.status)
 
 -- how many calls of a kind there were, where there were any
 abbrev pub call_line_above_0 : List ℕ → ℕ → List ℕ
@@ -82,11 +87,12 @@ flow_calls c =
     call_line_above_0 (codes "replace") c.replace ++ (call_line_above_0 (codes "change") c.change
     ++ (call_line_above_0 (codes "rest") c.rest ++ call_line_above_0 (codes "wake") c.wake))
 
--- the use of minislots, and beside it the calls
-unfoldable pub uses_text : Slots → Calls → List ℕ
-uses_text s c =
+-- the use of minislots, with open idles or without, and beside it the calls
+unfoldable pub uses_text : Bool → Slots → Calls → List ℕ
+uses_text opens s c =
     codes "\nuse              minislots       %        calls\n"
-    ++ (first_uses s (all_slots s) c ++ (last_uses s (all_slots s) c ++ (last_calls c ++ flow_calls c)))
+    ++ (first_uses s (all_slots s) c ++ (last_uses s (all_slots s) c
+    ++ (last_calls opens s (all_slots s) c ++ flow_calls c)))
 
 -- how many of the first numbers there were refusals with, so many of them
 abbrev pub told_before : List ℕ → ℕ → ℕ

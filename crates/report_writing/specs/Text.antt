@@ -16,7 +16,7 @@ use Rattle.report_writing.specs.Flows.{AreOrdered, flows_text}
 -- the tables of these numbers, where a minislot has so many ticks: of all lives or of those that asked most
 unfoldable pub tables_text : ℕ → Bool → Totals → List ℕ → List RankTold → List LifeNumbers → List ℕ
 tables_text ticks all t refused ranks ordered =
-    head_text ticks t ++ (uses_text t.slots t.calls ++ (refused_text refused
+    head_text ticks t ++ (uses_text t.opens t.slots t.calls ++ (refused_text refused
     ++ (ranks_text ticks (tells_replaced t) ranks ++ flows_text ticks (tells_replaced t) all ordered)))
 
 -- The text is the tables of the report on a history, with all lives of flows or with those that asked most

@@ -22,9 +22,10 @@ static CALLS: [&str; 13] = [
     "skip", "status", "wake",
 ];
 
-static USES: [&str; 6] = [
+static USES: [&str; 7] = [
     "data",
     "idle",
+    "open",
     "opportunity",
     "poll",
     "request",
@@ -112,15 +113,16 @@ pub(crate) fn put_calls(out: &mut Writer, calls: &Calls) -> Result<(), AllocErro
     put_object(out, &CALLS, &cells)
 }
 
-// Writes the minislots by their use.
+// Writes the minislots by their use, with those of open idles or without.
 #[tactic(auto, unfolding(crate::specs::Report::use_data))]
-pub(crate) fn put_use(out: &mut Writer, slots: &Slots) -> Result<(), AllocError>
-    ensures ok { OnOk result (out.new.tokens ≡ out.old.tokens ++ tokens_of (use_data slots.now)) }
+pub(crate) fn put_use(out: &mut Writer, slots: &Slots, opens: bool) -> Result<(), AllocError>
+    ensures ok { OnOk result (out.new.tokens ≡ out.old.tokens ++ tokens_of (use_data opens slots.now)) }
     ensures before { out.new.before ≡ out.old.before }
 {
     let cells = [
         Cell::Count(slots.data_grants as u128),
         Cell::Count(slots.idle as u128),
+        Cell::Given(told_if(opens, slots.open_idle as u128)),
         Cell::Count(slots.opportunity as u128),
         Cell::Count(slots.poll as u128),
         Cell::Count(slots.request as u128),

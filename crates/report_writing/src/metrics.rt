@@ -35,7 +35,7 @@ fn push_channel(
     push_reach(words, ticks, totals)?;
     push_calls(words, &totals.calls)?;
     push_refusals(words, refused)?;
-    push_use(words, ticks, &totals.slots)
+    push_use(words, ticks, totals.opens, &totals.slots)
 }
 
 /// The report on the entries that were taken as OpenMetrics, under the configuration of the reporter: times in seconds,

@@ -78,7 +78,7 @@ fn put_report(
     put_at(out, "skips", Cell::Count(totals.skips as u128))?;
     put_at(out, "to", Cell::Maybe(totals.to))?;
     out.key("use")?;
-    put_use(out, &totals.slots)?;
+    put_use(out, &totals.slots, totals.opens)?;
     out.end_object()
 }
 

@@ -38,7 +38,7 @@ pub fn report_text(
     let replaced = totals.replaces > 0;
     let mut words = Vec::new(alloc);
     push_head(&mut words, ticks, &totals)?;
-    push_uses(&mut words, &totals.slots, &totals.calls)?;
+    push_uses(&mut words, totals.opens, &totals.slots, &totals.calls)?;
     push_refused(&mut words, reporter.refused())?;
     push_ranks(&mut words, ticks, replaced, &ranks)?;
     push_flows(&mut words, ticks, replaced, &lives, all)?;

@@ -32,6 +32,8 @@ base = record {
   flows = 64;
   pending = 64;
   periodic = 40;
+  open_idle = 0;
+  settle = 0;
 }
 
 -- it is lawful

@@ -2,3 +2,5 @@ pub mod Base
 pub mod BaseMaps
 pub mod Faults
 pub mod RowsFaults
+pub mod Insertion
+pub mod Removal

@@ -5,3 +5,4 @@ pub mod Amount
 pub mod FlowSpec
 pub mod Header
 pub mod Reply
+pub mod Sids

@@ -1,23 +1,33 @@
-//! Opportunities: minislots in which modems range, so that they can join the channel and stay on it.
+//! Opportunities: minislots that are asked for by name, in which modems range, request or send without a flow, or in
+//! which nobody sends.
 
 ghost use Rattle.std.specs.Prelude.{◌≡◌};
 ghost use Rattle.sched_calls.specs.Header.{header_of};
 
 use minislots::Checked;
 
-/// Whom an opportunity is for.
+/// What an opportunity is used for, and by whom.
 #[derive(Clone, Copy, Debug, PartialEq, Eq)]
 pub enum Usage {
     /// Initial Maintenance: any modem that joins the channel may send there, so it goes to the SID of all modems.
     Initial,
-    /// Station Maintenance of the modem with this SID.
+    /// Initial Maintenance of the modem with this SID, from 1 to 8191.
+    InitialTo(u16),
+    /// Station Maintenance of the modem with this SID, from 1 to 8191.
     Station(u16),
+    /// Requests of the modem with this SID, from 1 to 8191; of those with traffic of some priorities, whose SIDs are
+    /// 15873 to 16127; or of all modems, whose SID is 16383.
+    Request(u16),
+    /// Nobody sends: in such a window a receiver measures noise.
+    Quiet,
+    /// A data grant to this SID, from 1 to 8191, which needs no flow: a modem that registers has a temporary one.
+    DataTo(u16),
 }
 
-/// Minislots in which a modem ranges.
+/// Minislots that are asked for by name.
 #[derive(Clone, Copy, Debug, PartialEq, Eq)]
 pub struct Opportunity {
-    /// Whom it is for.
+    /// What it is used for, and by whom.
     pub usage: Usage,
     /// How many minislots it has.
     pub slots: u16,

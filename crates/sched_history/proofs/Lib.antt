@@ -4,6 +4,7 @@ pub mod flows
 pub mod time
 pub mod steps
 pub mod reserves
+pub mod settling
 pub mod plans
 pub mod placements
 pub mod facts

@@ -3,4 +3,5 @@ pub mod SoundLives
 pub mod OnTime
 pub mod Orderly
 pub mod Ranging
+pub mod Settled
 pub mod FactsOf

@@ -4,10 +4,12 @@ pub mod ReservesAfter
 pub mod HeaderAfter
 pub mod GoodReserves
 pub mod Places
-pub mod Offers
+pub mod Idle
+pub mod Standing
 pub mod MetPlaces
 pub mod Rooms
 pub mod Counting
 pub mod Waited
-pub mod MetOnce
+pub mod Sums
 pub mod Losing
+pub mod MetAfter

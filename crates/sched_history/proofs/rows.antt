@@ -16,3 +16,5 @@ pub mod Limits
 pub mod Facts
 pub mod Opportunities
 pub mod Headers
+pub mod Settling
+pub mod OpenIdle

@@ -1,6 +1,7 @@
 -- What follows for every legal history, as an operator of the plant would say it.
-use Rattle.std.specs.Prelude.{◌≡◌, ℕ, ◌+◌, ◌/◌, ◌%◌, ◌<◌, ◌≤◌, true, false, List, [], ◌∷◌}
-use Rattle.std.specs.Prelude.{◌++◌, length, take, zip, filter_map, Contains}
+use Rattle.std.specs.Prelude.{◌≡◌, ℕ, ◌+◌, ◌/◌, ◌%◌, ◌<◌, ◌≤◌, Bool, true, false, List, [], ◌∷◌}
+use Rattle.std.specs.Prelude.{if◌then◌else◌}
+use Rattle.std.specs.Prelude.{◌++◌, length, take, zip, Contains}
 use Rattle.std.specs.List.{AllByRecursion}
 use Rattle.minislots.specs.declared.config.Config.{Config}
 use Rattle.map_codec.specs.declared.element.Element.{Element}
@@ -12,21 +13,20 @@ use Rattle.flow_book.specs.Ceiling.{KeepsCeiling}
 use Rattle.periodic.specs.Placement.{Placed, phase_of, offset_of}
 use Rattle.sched_calls.specs.declared.frame_map.FrameMap.{FrameMap}
 use Rattle.map_build.specs.EachAfter.{EachAfter}
-use Rattle.map_build.specs.FrameMap.{request_region, null_element}
+use Rattle.map_build.specs.FrameMap.{request_region, quiet_element, null_element}
+use Rattle.map_build.specs.declared.met.Met.{Met}
+use Rattle.map_build.specs.Reading.{meets_at}
 use Rattle.sched_calls.specs.declared.call.Call.{Call}
 use Rattle.sched_calls.specs.declared.call.Call.TheVariants.{Ask, Replace}
 use Rattle.sched_calls.specs.declared.reply.Reply.{Reply}
 use Rattle.sched_calls.specs.declared.reply.Reply.TheVariants.{Taken, Built}
 use Rattle.sched_calls.specs.declared.reply.Entry.{Entry}
 use Rattle.sched_history.specs.Life.{flows_of, table_of}
-use Rattle.sched_history.specs.Reserves.{is_opportunity}
+use Rattle.sched_history.specs.Reserves.{met_after}
 use Rattle.sched_history.specs.Refusal.{bad_sid}
-use Rattle.sched_history.specs.History.{map_by}
+pub use Rattle.sched_history.specs.Settling.{maps_of}
+use Rattle.sched_history.specs.Settling.{is_quiet, settles_after}
 use Rattle.sched_history.specs.Ranging.{HoldsForRanging}
-
--- the MAPs that were built, in order
-abbrev pub maps_of : List Entry → List FrameMap
-maps_of h = filter_map (λ e. map_by e.reply) h
 
 -- the flow was granted no more bytes than it asked
 abbrev pub IsWithinAsked : LiveFlow → Type 0
@@ -42,25 +42,25 @@ OffsetsAscend [] = Unit {0}
 OffsetsAscend (e ∷ []) = Unit {0}
 OffsetsAscend (e ∷ next ∷ es) = (e.offset < next.offset) × OffsetsAscend (next ∷ es)
 
--- A front of disjoint ascending allocations, each up to the next: the request region first, the only Null last. All
--- opportunities are among them
+-- the head of a MAP: the request region, or where the MAP settles its idle
+abbrev pub head_for : Config → Bool → Element
+head_for c settles = if settles then quiet_element c else request_region
+
+-- A front of disjoint ascending allocations, each up to the next: the request region first, the only Null last. What is
+-- behind begins where the frame ends. A MAP that settles has its idle first, and no other allocation
 pub record HasFront (c : Config) (es : List Element) : Type 0 where
   pub allocations : List Element
   pub behind : List Element
-  pub whole : es ≡ request_region ∷ (allocations ++ null_element c ∷ behind)
+  pub whole : es ≡ head_for c (is_quiet es) ∷ (allocations ++ null_element c ∷ behind)
+  pub alone : is_quiet es ≡ true → allocations ≡ []
   pub one_null : nulls es ≡ 1
-  pub ascend : OffsetsAscend (request_region ∷ (allocations ++ null_element c ∷ []))
-  pub ranging : AllByRecursion (λ e. is_opportunity e ≡ false) behind
-
--- an opportunity has no bytes
-abbrev pub IsUnasked : Element → ℕ → Type 0
-IsUnasked e bytes = is_opportunity e ≡ true → bytes ≡ 0
+  pub ascend : OffsetsAscend (head_for c (is_quiet es) ∷ (allocations ++ null_element c ∷ []))
+  pub past : AllByRecursion (λ e. e.offset ≡ c.frame) behind
 
 -- the MAP has at most 240 elements, a byte count for each, and such a front
 pub record IsOrderly (c : Config) (m : FrameMap) : Type 0 where
   pub within : length m.wire.elements ≤ MAX_ELEMENTS
   pub counted : length m.bytes ≡ length m.wire.elements
-  pub unasked : AllByRecursion (λ e. IsUnasked e.0 e.1) (zip m.wire.elements m.bytes)
   pub front : HasFront c m.wire.elements
 
 -- each MAP starts at least a frame after every earlier one
@@ -68,13 +68,13 @@ abbrev pub StartsAscend : Config → List FrameMap → Type 0
 StartsAscend c maps =
     EachAfter (λ before m. AllByRecursion (λ earlier. earlier.start + c.frame ≤ m.start) before) [] maps
 
--- the element is a poll or an unsolicited grant: in the frame, to a flow, without bytes that were asked, and no
--- opportunity
-pub record IsPeriodic (c : Config) (e : Element) (bytes : ℕ) : Type 0 where
+-- the element is a poll or an unsolicited grant: in the frame, to a flow, without bytes that were asked, and begins where
+-- no opportunity is met
+pub record IsPeriodic (c : Config) (met : List Met) (e : Element) (bytes : ℕ) : Type 0 where
   pub in_frame : e.offset < c.frame
   pub to_flow : bad_sid e.sid ≡ false
   pub unasked : bytes ≡ 0
-  pub unreserved : is_opportunity e ≡ false
+  pub unreserved : meets_at met e.offset ≡ false
 
 -- the nominal time of a placed flow in the frame that starts there
 abbrev pub nominal_time : Config → ℕ → Placed → ℕ
@@ -89,12 +89,13 @@ pub record IsOnTime (c : Config) (table : List Placed) (start : ℕ) (e : Elemen
   pub not_early : nominal_time c start flow ≤ start + e.offset
   pub within_jitter : start + e.offset ≤ nominal_time c start flow + jitter_slots c flow.spec
 
--- every poll and unsolicited grant of a MAP that a reply builds is on time, with these live placements
-abbrev pub KeepsTimes : Config → List Placed → Reply → Type 0
-KeepsTimes c table (Built m) =
-    AllByRecursion (λ e. IsPeriodic c e.0 e.1 → (flow : Placed) × IsOnTime c table m.start e.0 flow)
+-- every poll and unsolicited grant of a MAP that a reply builds is on time, with these live placements, where it meets
+-- these opportunities
+abbrev pub KeepsTimes : Config → List Placed → List Met → Reply → Type 0
+KeepsTimes c table met (Built m) =
+    AllByRecursion (λ e. IsPeriodic c met e.0 e.1 → (flow : Placed) × IsOnTime c table m.start e.0 flow)
     (zip m.wire.elements m.bytes)
-KeepsTimes c table reply = Unit {0}
+KeepsTimes c table met reply = Unit {0}
 
 -- a request that was accepted was heard at or after the acknowledge time of each of these MAPs
 abbrev pub IsHeardAfter : List FrameMap → Call → Reply → Type 0
@@ -102,15 +103,22 @@ IsHeardAfter maps (Ask receiver sid amount heard) Taken = AllByRecursion (λ m. 
 IsHeardAfter maps (Replace receiver sid amount heard) Taken = AllByRecursion (λ m. m.ack ≤ heard) maps
 IsHeardAfter maps call reply = Unit {0}
 
+-- the MAP of a reply settles exactly where it is to, after these entries
+abbrev pub SettlesInTime : Config → List Entry → Reply → Type 0
+SettlesInTime c before (Built m) = is_quiet m.wire.elements ≡ settles_after c before
+SettlesInTime c before reply = Unit {0}
+
 -- What an operator may rely on after these entries
 pub record HoldsAfter (c : Config) (h : List Entry) : Type 0 where
   pub within_asked : AllByRecursion IsWithinAsked (flows_of c h)
   pub within_rate : AllByRecursion (IsWithinRate c) (flows_of c h)
   pub orderly : AllByRecursion (IsOrderly c) (maps_of h)
   pub starts_ascend : StartsAscend c (maps_of h)
-  pub on_time : EachAfter (λ before e. KeepsTimes c (table_of before) e.reply) [] h
+  pub on_time :
+      EachAfter (λ before e. KeepsTimes c (table_of before) (met_after c before e.reply) e.reply) [] h
   pub heard_after : EachAfter (λ before e. IsHeardAfter (maps_of before) e.call e.reply) [] h
   pub ranging : HoldsForRanging c h
+  pub settles : EachAfter (λ before e. SettlesInTime c before e.reply) [] h
 
 -- it holds after every entry of the history: for every front of its list
 unfoldable pub FollowsAlways : Config → List Entry → Type 0

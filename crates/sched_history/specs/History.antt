@@ -1,5 +1,5 @@
 -- Which reply may follow a history, and which histories are legal.
-use Rattle.std.specs.Prelude.{◌≡◌, ℕ, ◌+◌, ◌/◌, ◌⊎◌, true, false, List, [], Option, None}
+use Rattle.std.specs.Prelude.{◌≡◌, ℕ, ◌+◌, ◌/◌, ◌⊎◌, true, false, List, [], None}
 use Rattle.std.specs.Prelude.{Some, MatchOption, IsSomeAnd, if◌then◌else◌}
 use Rattle.minislots.specs.declared.config.Config.{Config}
 use Rattle.sched_calls.specs.declared.spec.FlowSpec.{FlowSpec}
@@ -24,6 +24,8 @@ use Rattle.sched_history.specs.Life.{Admission, life_of, given_in, flow_in_life,
 use Rattle.sched_history.specs.Time.{next_after, ack_after, IsFirstStart}
 use Rattle.sched_history.specs.Reserves.{header_after, reserves_of, waiting_in}
 use Rattle.sched_history.specs.Refusal.{refusal_of}
+pub use Rattle.sched_history.specs.Settling.{map_by}
+use Rattle.sched_history.specs.Settling.{settles_after}
 
 -- a flow is admitted with a lawful placement, or refused where there is none
 abbrev pub PlacesOrRefuses : Config → List Entry → FlowSpec → Reply → Type 0
@@ -62,20 +64,15 @@ AnswersChange c h sid given spec reply =
 abbrev pub flow_status : LiveFlow → Reply
 flow_status f = if takes_requests f.spec then replies.Flow f.asked (granted f) (outstanding f) else replies.Flow 0 0 0
 
--- what the next frame has to serve
+-- what the next frame has to serve, and whether its MAP settles
 abbrev pub demand_after : Config → List Entry → Demand
-demand_after c h = demand_at (flows_of c h) (due_in c (next_after c h / c.frame) (table_of h))
-    (waiting_in (reserves_of h)) (next_after c h)
+demand_after c h = record (demand_at (flows_of c h) (due_in c (next_after c h / c.frame) (table_of h))
+    (waiting_in (reserves_of c h)) (next_after c h)) { settles = settles_after c h }
 
 -- the MAP is the lawful one of the next frame
 abbrev pub IsNextMap : Config → List Entry → FrameMap → Type 0
 IsNextMap c h m =
     IsLawfulMap c (demand_after c h) (header_after c h) (ack_after c h) m
-
--- the MAP that a reply builds
-abbrev pub map_by : Reply → Option FrameMap
-map_by (replies.Built m) = Some m
-map_by reply = None
 
 -- the reply to a call that no test refuses
 abbrev pub Answers : Config → List Entry → Call → Reply → Type 0

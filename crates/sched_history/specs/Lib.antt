@@ -9,6 +9,8 @@ pub use Rattle.map_build.specs.FrameMap
 pub mod Latest
 pub mod Life
 pub mod Time
+pub mod Headers
+pub mod Settling
 pub mod Reserves
 pub mod Refusal
 pub mod History

@@ -8,7 +8,8 @@ use Rattle.sched_calls.specs.declared.frame_map.FrameMap.{FrameMap}
 use Rattle.sched_calls.specs.declared.call.Call.TheVariants.{Build}
 use Rattle.sched_calls.specs.declared.reply.Reply.TheVariants.{Built}
 use Rattle.sched_history.specs.Life.{flows_of}
-use Rattle.sched_history.specs.Reserves.{reserves_of, aged, unmarked}
+use Rattle.sched_history.specs.Reserves.{reserves_of, left_behind}
+use Rattle.sched_history.specs.Settling.{settles_after}
 use Rattle.sched_history.specs.Refusal.{refusal_of}
 use Rattle.sched_history.specs.History.{IsNextMap}
 use Rattle.sched_history.specs.Machine.{Machine, is_full}
@@ -33,5 +34,5 @@ pub record IsPlanAfter (m : Machine) (p : PlannedBuild) : Type 0 where
   pub before : p.before ≡ flows_of m.config m.history
   pub flows : (stamp : Stamp) → p.flows
       ≡ flows_of m.config (m.history ++ record { stamp = stamp; call = Build p.clock; reply = Built p.map } ∷ [])
-  pub reserves : (stamp : Stamp) → aged (unmarked p.met (reserves_of m.history))
-      ≡ reserves_of (m.history ++ record { stamp = stamp; call = Build p.clock; reply = Built p.map } ∷ [])
+  pub reserves : (stamp : Stamp) → left_behind (settles_after m.config m.history) p.met (reserves_of m.config m.history)
+      ≡ reserves_of m.config (m.history ++ record { stamp = stamp; call = Build p.clock; reply = Built p.map } ∷ [])

@@ -9,8 +9,9 @@ use Rattle.sched_calls.specs.Amount.{requested}
 use Rattle.sched_calls.specs.declared.spec.FlowSpec.{FlowSpec}
 use Rattle.sched_calls.specs.FlowSpec.{is_periodic, is_kind_of, periodic_slots, grants_of, takes_requests, first_fault}
 use Rattle.flow_book.specs.Book.{without}
+use Rattle.map_build.specs.Purpose.{broadcast}
 use Rattle.sched_calls.specs.declared.opportunity.Usage.{Usage}
-use Rattle.sched_calls.specs.declared.opportunity.Usage.TheVariants.{Initial, Station}
+use Rattle.sched_calls.specs.declared.opportunity.Usage.TheVariants.{Initial, InitialTo, Station, Request, Quiet, DataTo}
 use Rattle.sched_calls.specs.declared.call.TheConstants.{MAX_RESERVES}
 use Rattle.sched_calls.specs.declared.call.Call.{Call}
 use Rattle.sched_calls.specs.declared.call.Call.TheVariants.{Admit, Remove, Ask, Heard, Build, Skip, Status}
@@ -93,10 +94,19 @@ other_grants c sid h = sum_by (λ f. grants_of f.spec) (without sid (flows_of c 
 abbrev pub periodic_grants : Config → List Entry → ℕ
 periodic_grants c h = sum_by (λ f. grants_of f.spec) (flows_of c h)
 
--- whether no modem can have the SID of this usage
+-- whether this is the SID of the modems that have traffic of some priorities
+abbrev pub is_sid_of_priorities : ℕ → Bool
+is_sid_of_priorities sid = nat_le 15873 sid && nat_le sid 16127
+
+-- whether no opportunity of this usage goes to its SID: requests may come from a modem, from those with traffic of some
+-- priorities, and from all modems
 abbrev pub is_to_bad_sid : Usage → Bool
 is_to_bad_sid Initial = false
+is_to_bad_sid (InitialTo sid) = bad_sid sid
 is_to_bad_sid (Station sid) = bad_sid sid
+is_to_bad_sid (Request sid) = bad_sid sid && not (is_sid_of_priorities sid || sid == broadcast)
+is_to_bad_sid Quiet = false
+is_to_bad_sid (DataTo sid) = bad_sid sid
 
 -- whether no window of contention may be as wide
 abbrev pub is_wide : ℕ → Bool
@@ -158,7 +168,7 @@ refusal_of c h (Skip now) = first_of (
 refusal_of c h (Reserve usage slots) = first_of (
     refused_if (is_to_bad_sid usage) BadSid ∷
     refused_if (slots == 0 || nat_lt (c.frame - c.req_slots) slots) BadLength ∷
-    refused_if (nat_le MAX_RESERVES (length (reserves_of h))) ReservesFull ∷ [])
+    refused_if (nat_le MAX_RESERVES (length (reserves_of c h))) ReservesFull ∷ [])
 refusal_of c h (Header header) = refused_if
     (is_wide header.ranging_start || is_wide header.ranging_end || is_wide header.data_start
     || is_wide header.data_end) BadBackoff

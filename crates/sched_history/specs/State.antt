@@ -1,7 +1,9 @@
 -- What a scheduler keeps of its history, and what is true of each scheduler.
-use Rattle.std.specs.Prelude.{◌≡◌, ℕ, ◌+◌, ◌-◌, ◌*◌, ◌/◌, ◌%◌, ◌<◌, ◌≤◌, Bool, true, false, Option, None, Some, List, [], ◌∷◌}
+use Rattle.std.specs.Prelude.{◌≡◌, ℕ, ◌+◌, ◌-◌, ◌*◌, ◌/◌, ◌%◌, ◌<◌, ◌≤◌, Bool, true, false}
+use Rattle.std.specs.Prelude.{not, ◌&&◌, ◌||◌, nat_lt, ◌==◌, Option, None, Some, List, [], ◌∷◌}
 use Rattle.std.specs.Prelude.{◌++◌, length, slice_index, vec_capacity}
 use Rattle.std.specs.List.{AllByRecursion}
+use Rattle.std.specs.Option.{option_map_or}
 use Rattle.minislots.specs.declared.config.Config.{Config}
 use Rattle.minislots.specs.declared.stamp.Stamp.{Stamp}
 use Rattle.minislots.specs.Config.{IsLawful}
@@ -23,7 +25,8 @@ use Rattle.sched_calls.specs.declared.reply.Entry.{Entry}
 use Rattle.sched_history.specs.Life.{turn_by, added_by, replaced_by, grants_by, batches_by, change_by, rest_by}
 use Rattle.sched_history.specs.Life.{flows_of, table_of}
 use Rattle.sched_history.specs.Time.{skip_by, is_built, progress_by, next_after, progress_of}
-use Rattle.sched_history.specs.Reserves.{reserve_by, header_by, header_after, reserves_of, waiting_in, aged, unmarked}
+use Rattle.sched_history.specs.Reserves.{reserve_by, header_by, header_after, reserves_of, waiting_in, left_behind}
+use Rattle.sched_history.specs.Settling.{settling_after, is_near, settles_after}
 use Rattle.sched_history.specs.Refusal.{most_bytes, most_ahead, last_clock, refusal_of}
 use Rattle.sched_history.specs.History.{Answers, IsStep, IsLegal, IsNextMap}
 use Rattle.sched_history.specs.Planned.{PlannedBuild}
@@ -31,10 +34,17 @@ use Rattle.sched_history.specs.Facts.{IsWithinAsked}
 use Rattle.sched_history.specs.Machine.{Machine, kept_of, TakesMemory}
 use Rattle.sched_calls.specs.Reply.{IsEncodable}
 
--- what the next frame has to serve, by the fields
+-- the MAP of the next frame settles, by the fields: its header has another UCD count than the last MAP, or it starts
+-- less than the configuration says behind the last that changed
+abbrev pub settles_next : State → Bool
+settles_next s = nat_lt 0 s.config.settle
+    && (not (s.header.ucd_count == s.settling.count)
+    || option_map_or (is_near s.config.settle s.next) s.settling.change false)
+
+-- what the next frame has to serve, and whether its MAP settles, by the fields
 abbrev pub next_demand : State → Demand
-next_demand s = demand_at s.book.flows (due_in s.config (s.next / s.config.frame) s.table.placed)
-    (waiting_in s.reserves) s.next
+next_demand s = record (demand_at s.book.flows (due_in s.config (s.next / s.config.frame) s.table.placed)
+    (waiting_in s.reserves) s.next) { settles = settles_next s }
 
 -- The bounds of what a scheduler keeps, after so many calls
 pub record IsBounded (c : Config) (flows : List LiveFlow) (next calls : ℕ) : Type 0 where
@@ -56,8 +66,9 @@ pub record IsStateAfter (s : State) (h : List Entry) : Type 0 where
   pub places : length s.progress ≡ 16
   pub progress : (receiver : ℕ) → receiver < s.config.receivers
       → slice_index s.progress receiver ≡ progress_of s.config receiver h
-  pub reserves : s.reserves ≡ reserves_of h
+  pub reserves : s.reserves ≡ reserves_of s.config h
   pub header : s.header ≡ header_after s.config h
+  pub settling : s.settling ≡ settling_after s.config h
 
 -- what contracts see of a scheduler: what it does not keep of the ledger's entries was handed over
 abbrev pub machine_of : Inside → Machine
@@ -113,8 +124,8 @@ pub record IsBuildAfter (c : Config) (h : List Entry) (p : PlannedBuild) : Type 
   pub before : p.before ≡ flows_of c h
   pub flows : (stamp : Stamp) → p.flows
       ≡ flows_of c (h ++ record { stamp = stamp; call = Build p.clock; reply = Built p.map } ∷ [])
-  pub reserves : (stamp : Stamp) → aged (unmarked p.met (reserves_of h))
-      ≡ reserves_of (h ++ record { stamp = stamp; call = Build p.clock; reply = Built p.map } ∷ [])
+  pub reserves : (stamp : Stamp) → left_behind (settles_after c h) p.met (reserves_of c h)
+      ≡ reserves_of c (h ++ record { stamp = stamp; call = Build p.clock; reply = Built p.map } ∷ [])
 
 -- after some history the call is open
 abbrev pub IsOpen : State → Call → Type 0

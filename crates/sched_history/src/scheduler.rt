@@ -15,12 +15,14 @@ mod answering;
 mod changing;
 mod following;
 mod handing_over;
+mod met;
 mod planned;
 mod present;
 mod recording;
 mod refusing;
 mod reserves;
 mod resuming;
+mod settling;
 mod state;
 
 use crate::fault::PlanFault;

@@ -10,14 +10,14 @@ use Rattle.map_drawing.specs.Allocation.{front_length}
 use Rattle.map_drawing.proofs.Fronts.{front_length-<}
 use Rattle.sched_calls.specs.declared.frame_map.FrameMap.{FrameMap}
 use Rattle.map_build.specs.FrameMap.{elements_of}
+use Rattle.map_build.proofs.Planned.{plan-within}
 use Rattle.map_build.proofs.WellFormed.{AreEncodable, elements_of-encodable}
 use Rattle.sched_calls.specs.declared.reply.Entry.{Entry}
-use Rattle.sched_history.specs.Life.{flows_of}
 use Rattle.sched_history.specs.Time.{next_after}
 use Rattle.sched_history.specs.Refusal.{last_clock, most_ahead}
 use Rattle.sched_history.specs.History.{demand_after, IsLegal, IsNextMap}
 use Rattle.sched_history.proofs.facts.Orderly.{flows_of-in_range, due_in-in_range}
-use Rattle.sched_history.proofs.reserves.GoodReserves.{HaveStationSids-legal}
+use Rattle.sched_history.proofs.reserves.GoodReserves.{HaveElementSids-legal}
 use Rattle.sched_history.proofs.steps.LegalBounds.{next_after-most}
 use Rattle.sched_history.proofs.time.NextFrames.{next_start}
 use Rattle.sched_report.specs.Uses.{AreOfFrame}
@@ -40,9 +40,10 @@ module _ (c : Config) (lawful : IsLawful c) (h : List Entry) where
   of_next_frame m legal next =
       let frame = (bounds_of c lawful).frame_most in
       subst (λ (n : FrameMap). AreOfFrame n.wire.elements) (sym next.2)
-      (of_frame (elements_of c (flows_of c h) (next_after c h) next.0)
+      (of_frame (elements_of c (demand_after c h) next.0)
       (elements_of-encodable c (demand_after c h) next.0 (omega (arith, frame)) (flows_of-in_range c h)
-      (due_in-in_range c (next_after c h / c.frame) h) (HaveStationSids-legal c h legal) next.1.each next.1.whole))
+      (due_in-in_range c (next_after c h / c.frame) h) (HaveElementSids-legal c h legal) next.1.each
+      (plan-within c (demand_after c h) next.0 (omega (arith, (bounds_of c lawful).requests_fit)) next.1)))
 
   -- and starts in reach of the clock
   pub next_start-most : (m : FrameMap) → IsLegal c h → IsNextMap c h m → m.start ≤ last_clock + most_ahead

@@ -13,6 +13,8 @@ use Rattle.map_codec.specs.declared.element.Element.{Element}
 use Rattle.map_drawing.specs.declared.allocation.Allocation.{Allocation}
 use Rattle.map_drawing.specs.Allocation.{allocation_at}
 use Rattle.flow_book.specs.declared.flow.Grant.{Grant}
+use Rattle.map_build.specs.declared.met.Met.{Met}
+use Rattle.map_build.specs.Reading.{meets_at}
 use Rattle.sched_calls.specs.declared.spec.FlowSpec.{FlowSpec}
 use Rattle.sched_calls.specs.declared.spec.FlowSpec.TheVariants as flows
 use Rattle.sched_calls.specs.declared.frame_map.FrameMap.{FrameMap}
@@ -22,6 +24,7 @@ use Rattle.sched_calls.specs.declared.reply.Reply.{Reply}
 use Rattle.sched_calls.specs.declared.reply.Reply.TheVariants as replies
 use Rattle.sched_calls.specs.declared.reply.Entry.{Entry}
 use Rattle.sched_history.specs.Life.{turn_by, asked_in, grant_by, grants_of_map, grants_since}
+use Rattle.sched_history.specs.Reserves.{met_after}
 use Rattle.sched_history.specs.Time.{next_after}
 use Rattle.sched_report.specs.declared.life.LifeTally.{LifeTally}
 use Rattle.sched_report.specs.Delays.{Claim}
@@ -31,7 +34,7 @@ use Rattle.sched_report.specs.Lives.{PastLife, spec_of, is_turn, with_entry}
 use Rattle.sched_report.specs.Requests.{claims_in}
 use Rattle.sched_report.specs.Said.{unsolicited_at, unsolicited_of_map}
 use Rattle.sched_report.specs.Served.{IsServiceOf, with_grants}
-use Rattle.sched_report.specs.Told.{IsLifeOf, MayNote, MayGrantAll}
+use Rattle.sched_report.specs.Told.{IsLifeOf, MayNote, Meets, MayGrantAll}
 use Rattle.sched_report.specs.Uses.{use_of, is_unsolicited}
 use Rattle.sched_report.proofs.Fronts.{first_grants, first_grants-more, MayGrantAll-next}
 use Rattle.sched_report.proofs.LifeNotes.{not_ended, may_grant_map, goes_on-granted}
@@ -192,12 +195,13 @@ HaveMore-next c start es bs i d n in_elements in_counts x y z long first second 
     (λ spec sid. omega arith)
 
 -- an allocation of another SID is no unsolicited grant
-no_unsolicited : (spec : FlowSpec) (sid : ℕ) (a : Allocation) → (a.sid ≡ sid → ⊥) → unsolicited_at spec sid a ≡ 0
-no_unsolicited (flows.Unsolicited size interval jitter grants) sid a apart =
-    ap {B = ℕ} (λ (t : Bool). if t && is_unsolicited (use_of a.sid a.iuc true) then size else 0)
+no_unsolicited : (met : List Met) (spec : FlowSpec) (sid : ℕ) (a : Allocation) → (a.sid ≡ sid → ⊥)
+    → unsolicited_at met spec sid a ≡ 0
+no_unsolicited met (flows.Unsolicited size interval jitter grants) sid a apart =
+    ap {B = ℕ} (λ (t : Bool). if t && is_unsolicited (use_of a (meets_at met a.offset) true) then size else 0)
     (ne_eqb a.sid sid apart)
-no_unsolicited (flows.Polled interval jitter rate burst) sid a apart = refl
-no_unsolicited (flows.BestEffort priority rate burst) sid a apart = refl
+no_unsolicited met (flows.Polled interval jitter rate burst) sid a apart = refl
+no_unsolicited met (flows.BestEffort priority rate burst) sid a apart = refl
 
 module _ (places : List ℕ) (ts : List LifeTally) (are : AreLive places ts) (k : ℕ) (t : LifeTally)
     (below : k < length ts) (alive : (get_or ts k t).to ≡ None) where
@@ -210,21 +214,21 @@ module _ (places : List ℕ) (ts : List LifeTally) (are : AreLive places ts) (k 
       (λ some same. other_sid places ts are k t below e.sid apart alive same))
 
   -- and an allocation no unsolicited one
-  pub no_unsolicited-apart : (a : Allocation) → (k ≡ get_or places a.sid 0 → ⊥)
-      → unsolicited_at (get_or ts k t).spec (get_or ts k t).sid a ≡ 0
-  no_unsolicited-apart a apart =
-      no_unsolicited (get_or ts k t).spec (get_or ts k t).sid a
+  pub no_unsolicited-apart : (met : List Met) (a : Allocation) → (k ≡ get_or places a.sid 0 → ⊥)
+      → unsolicited_at met (get_or ts k t).spec (get_or ts k t).sid a ≡ 0
+  no_unsolicited-apart met a apart =
+      no_unsolicited met (get_or ts k t).spec (get_or ts k t).sid a
       (λ same. other_sid places ts are k t below a.sid apart alive same)
 
 -- the bytes of the unsolicited grants among some allocations and one more
-pub unsolicited-more : (spec : FlowSpec) (sid : ℕ) (es : List Element) (n : ℕ)
-    → sum_by (unsolicited_at spec sid) (first_allocations es n) + unsolicited_at spec sid (allocation_at es n)
-    ≡ sum_by (unsolicited_at spec sid) (first_allocations es (n + 1))
-unsolicited-more spec sid es n =
+pub unsolicited-more : (met : List Met) (spec : FlowSpec) (sid : ℕ) (es : List Element) (n : ℕ)
+    → sum_by (unsolicited_at met spec sid) (first_allocations es n) + unsolicited_at met spec sid (allocation_at es n)
+    ≡ sum_by (unsolicited_at met spec sid) (first_allocations es (n + 1))
+unsolicited-more met spec sid es n =
     omega (
       arith,
-      ap (sum_by (unsolicited_at spec sid)) (first_allocations-more es n),
-      sum_by_push (unsolicited_at spec sid) (first_allocations es n) (allocation_at es n),
+      ap (sum_by (unsolicited_at met spec sid)) (first_allocations-more es n),
+      sum_by_push (unsolicited_at met spec sid) (first_allocations es n) (allocation_at es n),
     )
 
 -- no life begins or ends with an entry that has a MAP
@@ -251,10 +255,10 @@ module _ (c : Config) (old : LifeTally) (life : PastLife) (slot : ℕ) (e : Entr
   may_count-map = omega (arith, is.bounded, may.few, (may.orderly m built).within)
 
   -- the life goes on with the grants of a MAP
-  pub goes_on-map : (new : LifeTally)
-      → HasMore c (grants_of_map old.sid m) (length m.wire.elements) (unsolicited_of_map old.spec old.sid m) old new
+  pub goes_on-map : (met : List Met) → Meets c life e met → (new : LifeTally)
+      → HasMore c (grants_of_map old.sid m) (length m.wire.elements) (unsolicited_of_map met old.spec old.sid m) old new
       → IsLifeOf c new (with_entry e life)
-  goes_on-map new more =
+  goes_on-map met meets new more =
       elim (cases_Bool life.ended) [
         | inl ended ↦
             let never : old.to ≡ None → ⊥ = λ none.
@@ -266,9 +270,11 @@ module _ (c : Config) (old : LifeTally) (life : PastLife) (slot : ℕ) (e : Entr
         | inr alive ↦
             let none : old.to ≡ None =
             is.to ∙ ap (λ b. if b then Some (next_after c (life.upto ++ life.since)) else None) alive in
-            let same : unsolicited_of_map old.spec old.sid m ≡ unsolicited_of_map (spec_of life) life.sid m =
-            ap (λ (spec : FlowSpec). unsolicited_of_map spec old.sid m) is.spec
-            ∙ ap (λ (sid : ℕ). unsolicited_of_map (spec_of life) sid m) is.sid in
+            let same : unsolicited_of_map met old.spec old.sid m
+            ≡ unsolicited_of_map (met_after c (life.upto ++ life.since) e.reply) (spec_of life) life.sid m =
+            ap (λ (spec : FlowSpec). unsolicited_of_map met spec old.sid m) is.spec
+            ∙ ap (λ (sid : ℕ). unsolicited_of_map met (spec_of life) sid m) is.sid
+            ∙ ap (λ (met : List Met). unsolicited_of_map met (spec_of life) life.sid m) (meets alive) in
             goes_on-granted c old life slot e is may alive stays new more.sid more.spec more.from more.to m built
             (omega (arith, more.counted none, same)) (omega (arith, more.few, (may.orderly m built).within))
             (subst (λ (sid : ℕ). IsServiceOf c new.service

@@ -24,3 +24,4 @@ pub mod LiveNow
 pub mod RanksTold
 pub mod RowsPercentiles
 pub mod RowsSaid
+pub mod RowsUses

@@ -7,6 +7,7 @@ use Rattle.std.proofs.lemmas.List.{append-nil, length_push}
 use Rattle.minislots.specs.declared.config.Config.{Config}
 use Rattle.sched_calls.specs.declared.spec.FlowSpec.{FlowSpec}
 use Rattle.flow_book.specs.Flows.{bytes_of}
+use Rattle.map_build.specs.declared.met.Met.{Met}
 use Rattle.sched_calls.specs.declared.frame_map.FrameMap.{FrameMap}
 use Rattle.sched_calls.specs.declared.call.Call.{Call}
 use Rattle.sched_calls.specs.declared.call.Call.TheVariants as calls
@@ -14,6 +15,7 @@ use Rattle.sched_calls.specs.declared.reply.Reply.{Reply}
 use Rattle.sched_calls.specs.declared.reply.Reply.TheVariants as replies
 use Rattle.sched_calls.specs.declared.reply.Entry.{Entry}
 use Rattle.sched_history.specs.Life.{asked_in, grants_by, grants_of_map, grants_since}
+use Rattle.sched_history.specs.Reserves.{met_after}
 use Rattle.sched_history.specs.Time.{next_after}
 use Rattle.sched_history.proofs.lists.Latests.{said-push}
 use Rattle.sched_history.proofs.lives.FlowsAfter.{grants_since-push}
@@ -51,18 +53,18 @@ ungranted sid (replies.Flow asked granted outstanding) unbuilt = refl
 ungranted sid (replies.Refused refusal) unbuilt = refl
 
 -- nor unsolicited ones
-pub ungranted_unsolicited : (spec : FlowSpec) (sid : ℕ) (reply : Reply) → HasNoMap reply
-    → unsolicited_by spec sid reply ≡ 0
-ungranted_unsolicited spec sid (replies.Built m) unbuilt = absurd (unbuilt m refl)
-ungranted_unsolicited spec sid (replies.Skipped n) unbuilt = refl
-ungranted_unsolicited spec sid (replies.Admitted placement) unbuilt = refl
-ungranted_unsolicited spec sid (replies.Changed placement) unbuilt = refl
-ungranted_unsolicited spec sid replies.Removed unbuilt = refl
-ungranted_unsolicited spec sid replies.Taken unbuilt = refl
-ungranted_unsolicited spec sid replies.Noted unbuilt = refl
-ungranted_unsolicited spec sid replies.Reserved unbuilt = refl
-ungranted_unsolicited spec sid (replies.Flow asked granted outstanding) unbuilt = refl
-ungranted_unsolicited spec sid (replies.Refused refusal) unbuilt = refl
+pub ungranted_unsolicited : (met : List Met) (spec : FlowSpec) (sid : ℕ) (reply : Reply) → HasNoMap reply
+    → unsolicited_by met spec sid reply ≡ 0
+ungranted_unsolicited met spec sid (replies.Built m) unbuilt = absurd (unbuilt m refl)
+ungranted_unsolicited met spec sid (replies.Skipped n) unbuilt = refl
+ungranted_unsolicited met spec sid (replies.Admitted placement) unbuilt = refl
+ungranted_unsolicited met spec sid (replies.Changed placement) unbuilt = refl
+ungranted_unsolicited met spec sid replies.Removed unbuilt = refl
+ungranted_unsolicited met spec sid replies.Taken unbuilt = refl
+ungranted_unsolicited met spec sid replies.Noted unbuilt = refl
+ungranted_unsolicited met spec sid replies.Reserved unbuilt = refl
+ungranted_unsolicited met spec sid (replies.Flow asked granted outstanding) unbuilt = refl
+ungranted_unsolicited met spec sid (replies.Refused refusal) unbuilt = refl
 
 -- an entry with a MAP gives no parameters
 built_spec : (sid : ℕ) (call : Call) (m : FrameMap) → new_spec sid call (replies.Built m) ≡ None
@@ -76,16 +78,22 @@ pub spec_after-push : (sid : ℕ) (first : FlowSpec) (es : List Entry) (e : Entr
 spec_after-push sid first es e = said-push (λ (e : Entry). new_spec sid e.call e.reply) first es e
 
 -- the bytes of unsolicited grants with one entry more
-unsolicited_after-push : (sid : ℕ) (first : FlowSpec) (before es : List Entry) (e : Entry)
-    → unsolicited_after sid first before (es ++ e ∷ []) ≡ unsolicited_after sid first before es
-    + unsolicited_by (spec_after sid first (before ++ es)) sid e.reply
-unsolicited_after-push sid first before [] e =
-    let same = ap (λ (es : List Entry). unsolicited_by (spec_after sid first es) sid e.reply) (append-nil before) in
-    omega (arith, same)
-unsolicited_after-push sid first before (x ∷ es) e =
-    let same = ap (λ (es : List Entry). unsolicited_by (spec_after sid first es) sid e.reply)
-    (append_assoc before (x ∷ []) es) in
-    omega (arith, same, unsolicited_after-push sid first (before ++ x ∷ []) es e)
+module _ (c : Config) (sid : ℕ) (first : FlowSpec) (upto : List Entry) where
+  -- those of one entry behind these of the life
+  abbrev unsolicited_behind : Entry → List Entry → ℕ
+  unsolicited_behind e before =
+      unsolicited_by (met_after c (upto ++ before) e.reply) (spec_after sid first before) sid e.reply
+
+  unsolicited_after-push : (before es : List Entry) (e : Entry)
+      → unsolicited_after c sid first upto before (es ++ e ∷ [])
+      ≡ unsolicited_after c sid first upto before es + unsolicited_behind e (before ++ es)
+  unsolicited_after-push before [] e = omega (arith, ap (unsolicited_behind e) (append-nil before))
+  unsolicited_after-push before (x ∷ es) e =
+      omega (
+        arith,
+        ap (unsolicited_behind e) (append_assoc before (x ∷ []) es),
+        unsolicited_after-push (before ++ x ∷ []) es e,
+      )
 
 module _ (c : Config) (t : LifeTally) (life : PastLife) (slot : ℕ) (e : Entry) (is : IsLifeOf c t life)
     (may : MayNote c life slot e) (alive : life.ended ≡ false) (stays : is_turn life.sid e ≡ false) where
@@ -100,7 +108,9 @@ module _ (c : Config) (t : LifeTally) (life : PastLife) (slot : ℕ) (e : Entry)
   -- the life goes on with what the entry has of requests, of parameters and of grants
   goes_on : (new : LifeTally) → new.sid ≡ t.sid
       → new.spec ≡ option_map_or (λ given. given) (new_spec life.sid e.call e.reply) t.spec → new.from ≡ t.from
-      → new.to ≡ t.to → new.unsolicited ≡ t.unsolicited + unsolicited_by (spec_of life) life.sid e.reply
+      → new.to ≡ t.to
+      → new.unsolicited ≡ t.unsolicited
+      + unsolicited_by (met_after c (life.upto ++ life.since) e.reply) (spec_of life) life.sid e.reply
       → new.unsolicited ≤ t.unsolicited + 2 ^ 32 * 240
       → IsServiceAfter c new.service life.sid (life.since ++ e ∷ []) → IsLifeOf c new (with_entry e life)
   goes_on new sid spec from to counted few service =
@@ -119,7 +129,7 @@ module _ (c : Config) (t : LifeTally) (life : PastLife) (slot : ℕ) (e : Entry)
           arith,
           counted,
           is.unsolicited,
-          unsolicited_after-push life.sid life.first [] life.since e,
+          unsolicited_after-push c life.sid life.first life.upto [] life.since e,
         );
         bounded = omega (arith, few, is.bounded, length_push life.since e);
       })
@@ -135,7 +145,11 @@ module _ (c : Config) (t : LifeTally) (life : PastLife) (slot : ℕ) (e : Entry)
       → IsServiceAfter c new.service life.sid (life.since ++ e ∷ []) → IsLifeOf c new (with_entry e life)
   goes_on-noted unbuilt new sid spec from to same service =
       goes_on new sid spec from to
-      (omega (arith, same, ungranted_unsolicited (spec_of life) life.sid e.reply unbuilt)) (omega (arith, same))
+      (omega (
+        arith,
+        same,
+        ungranted_unsolicited (met_after c (life.upto ++ life.since) e.reply) (spec_of life) life.sid e.reply unbuilt,
+      )) (omega (arith, same))
       service
 
   -- the data grants of a MAP may be counted
@@ -161,7 +175,8 @@ module _ (c : Config) (t : LifeTally) (life : PastLife) (slot : ℕ) (e : Entry)
   -- and with them the life goes on
   pub goes_on-granted : (new : LifeTally) → new.sid ≡ t.sid → new.spec ≡ t.spec → new.from ≡ t.from
       → new.to ≡ t.to → (m : FrameMap) → e.reply ≡ replies.Built m
-      → new.unsolicited ≡ t.unsolicited + unsolicited_of_map (spec_of life) life.sid m
+      → new.unsolicited ≡ t.unsolicited
+      + unsolicited_of_map (met_after c (life.upto ++ life.since) e.reply) (spec_of life) life.sid m
       → new.unsolicited ≤ t.unsolicited + 2 ^ 32 * 240
       → IsServiceOf c new.service (map (with_grants (grants_of_map life.sid m)) (claims_in c life.sid life.since))
       (asked_in c life.sid life.since) (grants_since life.sid life.since ++ grants_of_map life.sid m)
@@ -170,5 +185,9 @@ module _ (c : Config) (t : LifeTally) (life : PastLife) (slot : ℕ) (e : Entry)
       let none : new_spec life.sid e.call e.reply ≡ None =
       ap (λ (r : Reply). new_spec life.sid e.call r) built ∙ built_spec life.sid e.call m in
       goes_on new sid (spec ∙ sym (ap (λ o. option_map_or (λ given. given) o t.spec) none)) from to
-      (omega (arith, counted, ap (unsolicited_by (spec_of life) life.sid) built)) few
+      (omega (
+        arith,
+        counted,
+        ap (unsolicited_by (met_after c (life.upto ++ life.since) e.reply) (spec_of life) life.sid) built,
+      )) few
       (after-built c life.sid life.since e m built new.service service)

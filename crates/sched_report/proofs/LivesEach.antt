@@ -8,6 +8,7 @@ use Rattle.std.proofs.lemmas.List.Elements.{All-contains, All-from_recursion, Co
 use Rattle.minislots.specs.declared.config.Config.{Config}
 use Rattle.minislots.specs.Config.{IsLawful}
 use Rattle.sched_calls.specs.declared.spec.FlowSpec.TheVariants.{BestEffort}
+use Rattle.map_build.specs.declared.met.Met.{Met}
 use Rattle.sched_calls.specs.declared.call.Call.{Call}
 use Rattle.sched_calls.specs.declared.call.Call.TheVariants as calls
 use Rattle.sched_calls.specs.declared.reply.Reply.{Reply}
@@ -15,6 +16,7 @@ use Rattle.sched_calls.specs.declared.reply.Reply.TheVariants as replies
 use Rattle.sched_calls.specs.declared.reply.Entry.{Entry}
 use Rattle.sched_calls.specs.declared.reply.TheConstants.{MAX_WHOLE_HISTORY}
 use Rattle.sched_history.specs.History.{IsStep, IsLegal}
+use Rattle.sched_history.specs.Reserves.{met_after}
 use Rattle.sched_history.specs.Time.{next_after}
 use Rattle.sched_report.specs.declared.life.LifeTally.{LifeTally}
 use Rattle.sched_report.specs.declared.lives.Opening.{Opening}
@@ -22,7 +24,7 @@ use Rattle.sched_report.specs.declared.service.Request.{Request}
 use Rattle.sched_report.specs.Lives.{PastLife, opening_by, lives_of, IsRequest, IsOpening}
 use Rattle.sched_report.specs.Requests.{request_by}
 use Rattle.sched_report.specs.Told.{IsLifeOf}
-use Rattle.sched_report.specs.ToldLives.{AreLives, MayNoteEach}
+use Rattle.sched_report.specs.ToldLives.{AreLives, MayNoteEach, MeetsEach}
 use Rattle.sched_report.proofs.LegalLives.{IsLifeIn, are_lives}
 use Rattle.sched_report.proofs.MayNotes.{may_note}
 
@@ -86,10 +88,21 @@ module _ (c : Config) (ts : List LifeTally) (ls : List PastLife) (are : AreLives
     ];
   }
 
+-- each life of a legal history is one of its
+life_in : (c : Config) (h : List Entry) → IsLegal c h → (k : ℕ) (life : PastLife) → k < length (lives_of h)
+    → IsLifeIn h (get_or (lives_of h) k life)
+life_in c h legal k life below =
+    All-contains (IsLifeIn h) (lives_of h) (get_or (lives_of h) k life)
+    (All-from_recursion (IsLifeIn h) (lives_of h) (are_lives c h legal)) (Contains-get_or (lives_of h) k life below)
+
 -- the entry may follow each life of a legal history
 pub may_note_each : (c : Config) → IsLawful c → (h : List Entry) → IsLegal c h → (e : Entry)
     → IsStep c h e.call e.reply → length h < MAX_WHOLE_HISTORY → MayNoteEach c (lives_of h) (next_after c h) e
 may_note_each c lawful h legal e step short k life below =
-    may_note c lawful h legal e step short (get_or (lives_of h) k life)
-    (All-contains (IsLifeIn h) (lives_of h) (get_or (lives_of h) k life)
-    (All-from_recursion (IsLifeIn h) (lives_of h) (are_lives c h legal)) (Contains-get_or (lives_of h) k life below))
+    may_note c lawful h legal e step short (get_or (lives_of h) k life) (life_in c h legal k life below)
+
+-- and its MAP meets in each of them what it meets in the history
+pub meets_each : (c : Config) (h : List Entry) → IsLegal c h → (e : Entry) (met : List Met)
+    → met ≡ met_after c h e.reply → MeetsEach c (lives_of h) e met
+meets_each c h legal e met meets k life below alive =
+    meets ∙ ap (λ (es : List Entry). met_after c es e.reply) (sym ((life_in c h legal k life below).whole alive))

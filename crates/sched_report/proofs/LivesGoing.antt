@@ -18,8 +18,8 @@ use Rattle.sched_report.specs.declared.life.LifeTally.{LifeTally}
 use Rattle.sched_report.specs.declared.lives.Opening.{Opening}
 use Rattle.sched_report.specs.Lives.{PastLife, is_turn, opening_by, with_entry}
 use Rattle.sched_report.specs.Live.{AreLive, IsAlone}
-use Rattle.sched_report.specs.Told.{IsLifeOf, MayNote}
-use Rattle.sched_report.specs.ToldLives.{AreLives, MayNoteEach}
+use Rattle.sched_report.specs.Told.{IsLifeOf}
+use Rattle.sched_report.specs.ToldLives.{AreLives}
 use Rattle.sched_report.proofs.LifeNotes.{not_ended}
 use Rattle.sched_report.proofs.LivesEach.{no_life}
 
@@ -80,13 +80,14 @@ alone-after c ts ls e are o is k t below alive same =
     not_ended now.ended (next_after c (now.upto ++ now.since)) (get_or ts k t).to told.to (ap is_some alive) in
     let both : true ≡ false = sym ended ∙ goes_on in absurd cc
 
--- lives change, each into one that is told of its life with the entry
-pub AreLives-map : (c : Config) (old new : List LifeTally) (ls : List PastLife) (slot : ℕ) (e : Entry)
-    → AreLives c old ls → MayNoteEach c ls slot e → length new ≡ length old
+-- lives change, each into one that is told of its life with the entry, where something holds of each life
+pub AreLives-map : (c : Config) (old new : List LifeTally) (ls : List PastLife) (e : Entry) (P : PastLife → Type 0)
+    → AreLives c old ls → ((k : ℕ) (life : PastLife) → k < length ls → P (get_or ls k life))
+    → length new ≡ length old
     → ((k : ℕ) (t : LifeTally) (life : PastLife) → k < length old → IsLifeOf c (get_or old k t) life
-    → MayNote c life slot e → IsLifeOf c (get_or new k t) (with_entry e life))
+    → P life → IsLifeOf c (get_or new k t) (with_entry e life))
     → AreLives c new (map (with_entry e) ls)
-AreLives-map c old new ls slot e are may long step = record {
+AreLives-map c old new ls e P are may long step = record {
   long = long ∙ are.long ∙ sym (length-map ls (with_entry e));
   each = λ k t life below.
       let within : k < length old = omega (arith, below, long) in

@@ -66,7 +66,7 @@ module _ (c : Config) (sid : ℕ) where
     supersedes_none = none_superseded call reply none;
     unchanged = no_change_by call reply none;
     ungranted = ungranted sid reply unbuilt;
-    unsolicited = λ spec. ungranted_unsolicited spec sid reply unbuilt;
+    unsolicited = λ met spec. ungranted_unsolicited met spec sid reply unbuilt;
   }
 
   -- an entry that names another SID
@@ -81,7 +81,7 @@ module _ (c : Config) (sid : ℕ) where
         supersedes_none = refl;
         unchanged = refl;
         ungranted = refl;
-        unsolicited = λ spec. refl;
+        unsolicited = λ met spec. refl;
       }
   unnamed-other named (calls.Remove other) replies.Removed is apart =
       let same : other ≡ named = cc in
@@ -92,7 +92,7 @@ module _ (c : Config) (sid : ℕ) where
         supersedes_none = refl;
         unchanged = refl;
         ungranted = refl;
-        unsolicited = λ spec. refl;
+        unsolicited = λ met spec. refl;
       }
   unnamed-other named (calls.Ask receiver other amount heard) replies.Taken is apart =
       let same : other ≡ named = cc in
@@ -103,7 +103,7 @@ module _ (c : Config) (sid : ℕ) where
         supersedes_none = refl;
         unchanged = refl;
         ungranted = refl;
-        unsolicited = λ spec. refl;
+        unsolicited = λ met spec. refl;
       }
   unnamed-other named (calls.Replace receiver other amount heard) replies.Taken is apart =
       let same : other ≡ named = cc in
@@ -114,7 +114,7 @@ module _ (c : Config) (sid : ℕ) where
         supersedes_none = fails;
         unchanged = refl;
         ungranted = refl;
-        unsolicited = λ spec. refl;
+        unsolicited = λ met spec. refl;
       }
   unnamed-other named (calls.Change other spec) (replies.Changed placement) is apart =
       let same : other ≡ named = cc in
@@ -125,7 +125,7 @@ module _ (c : Config) (sid : ℕ) where
         supersedes_none = refl;
         unchanged = none_under (other == sid) _ fails;
         ungranted = refl;
-        unsolicited = λ spec. refl;
+        unsolicited = λ met spec. refl;
       }
   unnamed-other named call reply is apart = absurd (cc)
 

@@ -4,6 +4,7 @@ use Rattle.std.specs.Prelude.{sum_by, slice_get}
 use Rattle.std.specs.Option.{option_map, option_or}
 use Rattle.std.proofs.lemmas.List.{append-nil}
 use Rattle.std.proofs.lemmas.List.Sums.{sum_by_push}
+use Rattle.minislots.specs.declared.config.Config.{Config}
 use Rattle.sched_calls.specs.declared.frame_map.FrameMap.{FrameMap}
 use Rattle.sched_calls.specs.declared.reply.Reply.TheVariants as replies
 use Rattle.sched_calls.specs.declared.reply.Entry.{Entry}
@@ -34,35 +35,42 @@ frames_of-unbuilt h e none =
     frames_of-push h e ∙ ap (λ o. frames_of h ++ frame_by h o) none ∙ append-nil (frames_of h)
 
 -- the minislots of one frame more
-slots_of-frame : (h new : List Entry) (f : Frame) → frames_of new ≡ frames_of h ++ f ∷ []
-    → slots_of new ≡ sum_of (slots_of h) (slots_in f)
-slots_of-frame h new f is = same_slots _ _
-    (ap (sum_by (λ (g : Frame). (slots_in g).data_grants)) is
-    ∙ sum_by_push (λ (g : Frame). (slots_in g).data_grants) (frames_of h) f)
-    (ap (sum_by (λ (g : Frame). (slots_in g).idle)) is ∙ sum_by_push (λ (g : Frame). (slots_in g).idle) (frames_of h) f)
-    (ap (sum_by (λ (g : Frame). (slots_in g).opportunity)) is
-    ∙ sum_by_push (λ (g : Frame). (slots_in g).opportunity) (frames_of h) f)
-    (ap (sum_by (λ (g : Frame). (slots_in g).poll)) is ∙ sum_by_push (λ (g : Frame). (slots_in g).poll) (frames_of h) f)
-    (ap (sum_by (λ (g : Frame). (slots_in g).request)) is
-    ∙ sum_by_push (λ (g : Frame). (slots_in g).request) (frames_of h) f)
-    (ap (sum_by (λ (g : Frame). (slots_in g).unsolicited)) is
-    ∙ sum_by_push (λ (g : Frame). (slots_in g).unsolicited) (frames_of h) f)
+slots_of-frame : (c : Config) (h new : List Entry) (f : Frame) → frames_of new ≡ frames_of h ++ f ∷ []
+    → slots_of c new ≡ sum_of (slots_of c h) (slots_in c f)
+slots_of-frame c h new f is = same_slots _ _
+    (ap (sum_by (λ (g : Frame). (slots_in c g).data_grants)) is
+    ∙ sum_by_push (λ (g : Frame). (slots_in c g).data_grants) (frames_of h) f)
+    (ap (sum_by (λ (g : Frame). (slots_in c g).idle)) is
+    ∙ sum_by_push (λ (g : Frame). (slots_in c g).idle) (frames_of h) f)
+    (ap (sum_by (λ (g : Frame). (slots_in c g).open_idle)) is
+    ∙ sum_by_push (λ (g : Frame). (slots_in c g).open_idle) (frames_of h) f)
+    (ap (sum_by (λ (g : Frame). (slots_in c g).opportunity)) is
+    ∙ sum_by_push (λ (g : Frame). (slots_in c g).opportunity) (frames_of h) f)
+    (ap (sum_by (λ (g : Frame). (slots_in c g).poll)) is
+    ∙ sum_by_push (λ (g : Frame). (slots_in c g).poll) (frames_of h) f)
+    (ap (sum_by (λ (g : Frame). (slots_in c g).request)) is
+    ∙ sum_by_push (λ (g : Frame). (slots_in c g).request) (frames_of h) f)
+    (ap (sum_by (λ (g : Frame). (slots_in c g).unsolicited)) is
+    ∙ sum_by_push (λ (g : Frame). (slots_in c g).unsolicited) (frames_of h) f)
 
 -- the minislots with one MAP more
-pub slots_of-built : (h : List Entry) (e : Entry) (m : FrameMap) → e.reply ≡ replies.Built m
-    → slots_of (h ++ e ∷ []) ≡ sum_of (slots_of h) (slots_in (record { before = h; built = m }))
-slots_of-built h e m is =
-    slots_of-frame h (h ++ e ∷ []) (record { before = h; built = m }) (frames_of-built h e m is)
+pub slots_of-built : (c : Config) (h : List Entry) (e : Entry) (m : FrameMap) → e.reply ≡ replies.Built m
+    → slots_of c (h ++ e ∷ []) ≡ sum_of (slots_of c h) (slots_in c (record { before = h; built = m }))
+slots_of-built c h e m is =
+    slots_of-frame c h (h ++ e ∷ []) (record { before = h; built = m }) (frames_of-built h e m is)
 
-slots_of-same : (h new : List Entry) → frames_of new ≡ frames_of h → slots_of new ≡ slots_of h
-slots_of-same h new is = same_slots _ _
-    (ap (sum_by (λ (g : Frame). (slots_in g).data_grants)) is) (ap (sum_by (λ (g : Frame). (slots_in g).idle)) is)
-    (ap (sum_by (λ (g : Frame). (slots_in g).opportunity)) is) (ap (sum_by (λ (g : Frame). (slots_in g).poll)) is)
-    (ap (sum_by (λ (g : Frame). (slots_in g).request)) is) (ap (sum_by (λ (g : Frame). (slots_in g).unsolicited)) is)
+slots_of-same : (c : Config) (h new : List Entry) → frames_of new ≡ frames_of h → slots_of c new ≡ slots_of c h
+slots_of-same c h new is = same_slots _ _
+    (ap (sum_by (λ (g : Frame). (slots_in c g).data_grants)) is) (ap (sum_by (λ (g : Frame). (slots_in c g).idle)) is)
+    (ap (sum_by (λ (g : Frame). (slots_in c g).open_idle)) is)
+    (ap (sum_by (λ (g : Frame). (slots_in c g).opportunity)) is) (ap (sum_by (λ (g : Frame). (slots_in c g).poll)) is)
+    (ap (sum_by (λ (g : Frame). (slots_in c g).request)) is)
+    (ap (sum_by (λ (g : Frame). (slots_in c g).unsolicited)) is)
 
 -- and with no MAP
-pub slots_of-unbuilt : (h : List Entry) (e : Entry) → map_by e.reply ≡ None → slots_of (h ++ e ∷ []) ≡ slots_of h
-slots_of-unbuilt h e none = slots_of-same h (h ++ e ∷ []) (frames_of-unbuilt h e none)
+pub slots_of-unbuilt : (c : Config) (h : List Entry) (e : Entry) → map_by e.reply ≡ None
+    → slots_of c (h ++ e ∷ []) ≡ slots_of c h
+slots_of-unbuilt c h e none = slots_of-same c h (h ++ e ∷ []) (frames_of-unbuilt h e none)
 
 -- the first of some members with one behind is the first of them, or else it
 pub first-push : {X : Type 0} (f : X → ℕ) (xs : List X) (x : X)

@@ -72,7 +72,7 @@ granted_under-asking (BestEffort priority rate burst) unsolicited bytes asks = r
 
 -- the sums over some lives and one more
 pub AreRankSums-push : (c : Config) (s new : RankSums) (ls : List PastLife) (l : PastLife) → AreRankSums c s ls
-    → new.asks ≡ s.asks + length (claims_of c l) → new.granted ≡ s.granted + granted_in l
+    → new.asks ≡ s.asks + length (claims_of c l) → new.granted ≡ s.granted + granted_in c l
     → new.waiting ≡ s.waiting + waiting_in c l → new.dropped ≡ s.dropped + dropped_in c l
     → new.replaced ≡ s.replaced + replaced_in c l
     → new.served ≡ s.served + length (delays_in c l) → new.least ≡ both_least s.least (least_of (delays_in c l))
@@ -83,7 +83,7 @@ AreRankSums-push c s new ls l are asks granted waiting dropped replaced served l
     ∙ ap (λ (ds : List ℕ). delays_in_all c ls ++ ds) (append-nil (delays_in c l)) in
     record {
       asks = omega (arith, asks, are.asks, sum_by_push (λ (l : PastLife). length (claims_of c l)) ls l);
-      granted = omega (arith, granted, are.granted, sum_by_push granted_in ls l);
+      granted = omega (arith, granted, are.granted, sum_by_push (granted_in c) ls l);
       waiting = omega (arith, waiting, are.waiting, sum_by_push (waiting_in c) ls l);
       dropped = omega (arith, dropped, are.dropped, sum_by_push (dropped_in c) ls l);
       replaced = omega (arith, replaced, are.replaced, sum_by_push (replaced_in c) ls l);

@@ -1,19 +1,25 @@
 -- Worked rows: the requests and the grants of a best effort flow and of an unsolicited one.
-use Rattle.std.proofs.Common.{◌≡◌, ℕ, Bool, true, false, List, [], ◌∷◌, ◌++◌, length, None, Some, refl}
+use Rattle.std.proofs.Common.{◌≡◌, ℕ, ◌+◌, Bool, true, false, List, [], ◌∷◌, ◌++◌, length, None, Some, refl, ap}
 use Rattle.sched_calls.specs.declared.spec.FlowSpec.TheVariants.{BestEffort, Unsolicited, Polled}
 use Rattle.sched_calls.proofs.Base.{base}
 use Rattle.sched_calls.specs.declared.frame_map.FrameMap.{FrameMap}
 use Rattle.sched_calls.proofs.BaseMaps.{element, base_map}
 use Rattle.sched_calls.specs.declared.amount.Amount.TheVariants.{Bytes}
-use Rattle.sched_calls.specs.declared.call.Call.TheVariants.{Ask, Build, Replace, Change}
-use Rattle.sched_calls.specs.declared.reply.Reply.TheVariants.{Taken, Built, Changed}
+use Rattle.sched_calls.specs.declared.opportunity.Usage.TheVariants.{DataTo}
+use Rattle.sched_calls.specs.declared.call.Call.TheVariants.{Ask, Build, Replace, Change, Reserve}
+use Rattle.sched_calls.specs.declared.reply.Reply.TheVariants.{Taken, Built, Changed, Reserved}
 use Rattle.sched_calls.specs.declared.reply.Entry.{Entry}
+use Rattle.periodic.specs.Placement.{Placed, due_in}
+use Rattle.map_build.specs.Reading.{met_from, met_in}
+use Rattle.sched_history.specs.Reserves.{reserves_of, waiting_in as waiting_for}
+use Rattle.sched_history.proofs.lives.LiveFlows.{table_of-none}
 use Rattle.sched_history.proofs.rows.TwoMaps.{entry}
 use Rattle.sched_report.specs.Lives.{PastLife, spec_of}
 use Rattle.sched_report.specs.Said.{claims_of, delays_in, replaced_in, waiting_in, dropped_in, outstanding_in}
-use Rattle.sched_report.specs.Said.{granted_in, priority_of}
+use Rattle.sched_report.specs.Said.{granted_in, unsolicited_of_map, priority_of}
 use Rattle.sched_report.specs.Ranks.{is_of_rank, lives_of_rank, asks_among, granted_among, waiting_among}
 use Rattle.sched_report.specs.Ranks.{dropped_among, delays_in_all}
+use Rattle.frame_picture.specs.OpenIdle.{is_open_idle}
 use Rattle.sched_report.specs.Uses.{use_of}
 
 -- one grant of 150 bytes in 12 minislots, from 844 to 856
@@ -48,7 +54,7 @@ one_was_dropped = refl
 seventy_bytes_are_outstanding : outstanding_in base (life true) ≡ 70
 seventy_bytes_are_outstanding = refl
 
-its_data_grants_are_counted : granted_in (life true) ≡ 150
+its_data_grants_are_counted : granted_in base (life true) ≡ 150
 its_data_grants_are_counted = refl
 
 -- two unsolicited grants of 32 bytes to SID 18 in a frame, beside a data grant to SID 17 and a poll of SID 19
@@ -66,16 +72,35 @@ voice = record {
   ended = false;
 }
 
-four_grants_are_128_bytes : granted_in voice ≡ 128
-unfolding use_of
+four_grants_are_128_bytes : granted_in base voice ≡ 128
+unfolding use_of is_open_idle
 four_grants_are_128_bytes = refl
 
 nothing_is_outstanding : outstanding_in base voice ≡ 0
 nothing_is_outstanding = refl
 
-a_poll_is_no_grant : granted_in (record voice { sid = 19 }) ≡ 0
-unfolding use_of
+a_poll_is_no_grant : granted_in base (record voice { sid = 19 }) ≡ 0
+unfolding use_of is_open_idle
 a_poll_is_no_grant = refl
+
+-- where the first of them is an opportunity to send that is met, it is none of its grants
+an_opportunity_to_send_is_no_grant : unsolicited_of_map (met_from 4 0 ∷ []) (Unsolicited 32 1000 100 2) 18 twice ≡ 32
+unfolding use_of is_open_idle
+an_opportunity_to_send_is_no_grant = refl
+
+-- one is reserved before the flow lives, and its first MAP meets it there
+abbrev beside_an_opportunity : PastLife
+beside_an_opportunity = record voice {
+  upto = entry 1 (Reserve (DataTo 18) 4) Reserved ∷ [];
+  since = entry 2 (Build 760) (Built twice) ∷ [];
+}
+
+one_grant_is_32_bytes : granted_in base beside_an_opportunity ≡ 32
+unfolding use_of is_open_idle
+one_grant_is_32_bytes =
+    ap (λ (table : List Placed). unsolicited_of_map
+    (met_in base (due_in base 20 table) (waiting_for (reserves_of base beside_an_opportunity.upto)) twice.wire.elements)
+    (Unsolicited 32 1000 100 2) 18 twice + 0) (table_of-none beside_an_opportunity.upto (λ sid. refl))
 
 -- 544 of 1000 bytes are granted in 36 minislots, from 844 to 880
 abbrev part : FrameMap
@@ -159,8 +184,8 @@ changed_voice = record voice {
       ∷ entry 4 (Build 800) (Built twice) ∷ [];
 }
 
-each_grant_counts_by_its_size : granted_in changed_voice ≡ 160
-unfolding use_of
+each_grant_counts_by_its_size : granted_in base changed_voice ≡ 160
+unfolding use_of is_open_idle
 each_grant_counts_by_its_size = refl
 
 the_last_size_is_told : spec_of changed_voice ≡ Unsolicited 48 1000 100 2
@@ -202,7 +227,7 @@ both_are_of_rank_3 = refl
 six_requests_of_rank_3 : asks_among base (lives_of_rank 3 all) ≡ 6
 six_requests_of_rank_3 = refl
 
-their_grants : granted_among (lives_of_rank 3 all) ≡ 300
+their_grants : granted_among base (lives_of_rank 3 all) ≡ 300
 their_grants = refl
 
 one_of_them_waits : waiting_among base (lives_of_rank 3 all) ≡ 1

@@ -1,6 +1,6 @@
 -- The totals of a history with one entry more.
 use Rattle.std.proofs.Common.{◌≡◌, ℕ, ◌+◌, ◌≤◌, ◌^◌, List, [], ◌∷◌, ◌++◌, length, Option, None, Some, refl, ap}
-use Rattle.std.proofs.Common.{◌∙◌, sym, false, if◌then◌else◌, arith}
+use Rattle.std.proofs.Common.{◌∙◌, sym, Bool, false, if◌then◌else◌, arith}
 use Rattle.std.specs.Prelude.{slice_get, count_by}
 use Rattle.std.specs.Option.{option_map, option_or}
 use Rattle.std.proofs.lemmas.List.{length_push}
@@ -22,8 +22,8 @@ use Rattle.sched_report.specs.Totals.{last_of, is_skip_answer, is_replacement, t
 use Rattle.sched_report.proofs.Pushed.{slots_of-built, slots_of-unbuilt, first-push, last-push}
 
 -- so many of each number
-abbrev totals_with : ℕ → Option ℕ → Option ℕ → ℕ → ℕ → Calls → Slots → Totals
-totals_with frames from to skips replaces calls slots = record {
+abbrev totals_with : ℕ → Option ℕ → Option ℕ → ℕ → ℕ → Calls → Slots → Bool → Totals
+totals_with frames from to skips replaces calls slots opens = record {
   frames = frames;
   from = from;
   to = to;
@@ -31,19 +31,21 @@ totals_with frames from to skips replaces calls slots = record {
   replaces = replaces;
   calls = calls;
   slots = slots;
+  opens = opens;
 }
 
 -- numbers are the same where each of them is
 pub same_totals : (a b : Totals) → a.frames ≡ b.frames → a.from ≡ b.from → a.to ≡ b.to → a.skips ≡ b.skips
-    → a.replaces ≡ b.replaces → a.calls ≡ b.calls → a.slots ≡ b.slots → a ≡ b
-same_totals a b frames from to skips replaces calls slots =
-    ap (λ n. totals_with n a.from a.to a.skips a.replaces a.calls a.slots) frames
-    ∙ ap (λ n. totals_with b.frames n a.to a.skips a.replaces a.calls a.slots) from
-    ∙ ap (λ n. totals_with b.frames b.from n a.skips a.replaces a.calls a.slots) to
-    ∙ ap (λ n. totals_with b.frames b.from b.to n a.replaces a.calls a.slots) skips
-    ∙ ap (λ n. totals_with b.frames b.from b.to b.skips n a.calls a.slots) replaces
-    ∙ ap (λ n. totals_with b.frames b.from b.to b.skips b.replaces n a.slots) calls
-    ∙ ap (λ n. totals_with b.frames b.from b.to b.skips b.replaces b.calls n) slots
+    → a.replaces ≡ b.replaces → a.calls ≡ b.calls → a.slots ≡ b.slots → a.opens ≡ b.opens → a ≡ b
+same_totals a b frames from to skips replaces calls slots opens =
+    ap (λ n. totals_with n a.from a.to a.skips a.replaces a.calls a.slots a.opens) frames
+    ∙ ap (λ n. totals_with b.frames n a.to a.skips a.replaces a.calls a.slots a.opens) from
+    ∙ ap (λ n. totals_with b.frames b.from n a.skips a.replaces a.calls a.slots a.opens) to
+    ∙ ap (λ n. totals_with b.frames b.from b.to n a.replaces a.calls a.slots a.opens) skips
+    ∙ ap (λ n. totals_with b.frames b.from b.to b.skips n a.calls a.slots a.opens) replaces
+    ∙ ap (λ n. totals_with b.frames b.from b.to b.skips b.replaces n a.slots a.opens) calls
+    ∙ ap (λ n. totals_with b.frames b.from b.to b.skips b.replaces b.calls n a.opens) slots
+    ∙ ap (λ n. totals_with b.frames b.from b.to b.skips b.replaces b.calls b.slots n) opens
 
 module _ (c : Config) (h : List Entry) (e : Entry) (t : Totals) (calls : Calls) (replaces : ℕ) (are : AreTotals c h t)
     (called : calls ≡ calls_of (h ++ e ∷ []))
@@ -69,7 +71,7 @@ module _ (c : Config) (h : List Entry) (e : Entry) (t : Totals) (calls : Calls) 
 
   -- a MAP more is a frame more
   pub totals-built : (m : FrameMap) (s : Slots) → e.reply ≡ replies.Built m
-      → s ≡ slots_in (record { before = h; built = m })
+      → s ≡ slots_in c (record { before = h; built = m })
       → with_frame c.frame counted_call m s ≡ totals_of c (h ++ e ∷ [])
   totals-built m s is slots =
       let maps : maps_of (h ++ e ∷ []) ≡ maps_of h ++ m ∷ [] = maps_of-built h e m is in
@@ -84,8 +86,9 @@ module _ (c : Config) (h : List Entry) (e : Entry) (t : Totals) (calls : Calls) 
       replaces-push
       called
       (ap (λ u. sum_of t.slots u) slots
-      ∙ ap (λ u. sum_of u.slots (slots_in (record { before = h; built = m }))) are.value
-      ∙ sym (slots_of-built h e m is))
+      ∙ ap (λ u. sum_of u.slots (slots_in c (record { before = h; built = m }))) are.value
+      ∙ sym (slots_of-built c h e m is))
+      (ap (λ t. t.opens) are.value)
 
   -- without a MAP there is no frame more
   pub totals-unbuilt : (skips : ℕ) → map_by e.reply ≡ None
@@ -100,14 +103,15 @@ module _ (c : Config) (h : List Entry) (e : Entry) (t : Totals) (calls : Calls) 
       (more ∙ ap (λ n. n + (if is_skip_answer e.reply then 1 else 0)) (ap (λ t. t.skips) are.value) ∙ sym skips-push)
       replaces-push
       called
-      (ap (λ t. t.slots) are.value ∙ sym (slots_of-unbuilt h e none))
+      (ap (λ t. t.slots) are.value ∙ sym (slots_of-unbuilt c h e none))
+      (ap (λ t. t.opens) are.value)
 
   -- what is counted with a MAP more
   pub AreTotals-built : (m : FrameMap) (new : Totals) → e.reply ≡ replies.Built m
-      → new ≡ with_frame c.frame counted_call m (slots_in (record { before = h; built = m }))
+      → new ≡ with_frame c.frame counted_call m (slots_in c (record { before = h; built = m }))
       → all_slots new.slots ≤ all_slots t.slots + 2 ^ 14 → AreTotals c (h ++ e ∷ []) new
   AreTotals-built m new is counted more = record {
-    value = counted ∙ totals-built m (slots_in (record { before = h; built = m })) is refl;
+    value = counted ∙ totals-built m (slots_in c (record { before = h; built = m })) is refl;
     few = omega (arith, ap (λ (t : Totals). t.frames) counted, are.few, length_push h e);
     bounded = omega (arith, more, are.bounded, length_push h e);
   }

@@ -1,6 +1,7 @@
 -- Which SID an entry without a MAP names, and what it does to the flows of the others: nothing.
-use Rattle.std.specs.Prelude.{◌≡◌, ℕ, false, [], Option, None, Some}
+use Rattle.std.specs.Prelude.{◌≡◌, ℕ, false, List, [], Option, None, Some}
 use Rattle.minislots.specs.declared.config.Config.{Config}
+use Rattle.map_build.specs.declared.met.Met.{Met}
 use Rattle.sched_calls.specs.declared.spec.FlowSpec.{FlowSpec}
 use Rattle.sched_calls.specs.declared.frame_map.FrameMap.{FrameMap}
 use Rattle.sched_calls.specs.declared.call.Call.{Call}
@@ -28,7 +29,7 @@ pub record IsUnnamed (c : Config) (sid : ℕ) (call : Call) (reply : Reply) : Ty
   pub supersedes_none : supersedes_by sid call reply ≡ false
   pub unchanged : change_by sid call reply ≡ None
   pub ungranted : grants_by sid reply ≡ []
-  pub unsolicited : (spec : FlowSpec) → unsolicited_by spec sid reply ≡ 0
+  pub unsolicited : (met : List Met) (spec : FlowSpec) → unsolicited_by met spec sid reply ≡ 0
 
 -- the reply has no MAP
 abbrev pub HasNoMap : Reply → Type 0

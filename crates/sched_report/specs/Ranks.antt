@@ -24,8 +24,8 @@ abbrev pub asks_among : Config → List PastLife → ℕ
 asks_among c lives = sum_by (λ life. length (claims_of c life)) lives
 
 -- the bytes that they were granted
-abbrev pub granted_among : List PastLife → ℕ
-granted_among lives = sum_by granted_in lives
+abbrev pub granted_among : Config → List PastLife → ℕ
+granted_among c lives = sum_by (granted_in c) lives
 
 -- how many of their requests wait
 abbrev pub waiting_among : Config → List PastLife → ℕ
@@ -67,7 +67,7 @@ both_greatest None n = n
 -- These are the sums over some lives, and the least and the greatest of their delays
 pub record AreRankSums (c : Config) (s : RankSums) (lives : List PastLife) : Type 0 where
   pub asks : s.asks ≡ asks_among c lives
-  pub granted : s.granted ≡ granted_among lives
+  pub granted : s.granted ≡ granted_among c lives
   pub waiting : s.waiting ≡ waiting_among c lives
   pub dropped : s.dropped ≡ dropped_among c lives
   pub replaced : s.replaced ≡ replaced_among c lives

@@ -11,7 +11,10 @@ use Rattle.sched_calls.specs.declared.frame_map.FrameMap.{FrameMap}
 use Rattle.sched_calls.specs.declared.reply.Reply.{Reply}
 use Rattle.sched_calls.specs.declared.reply.Reply.TheVariants as replies
 use Rattle.sched_calls.specs.declared.reply.Entry.{Entry}
+use Rattle.map_build.specs.declared.met.Met.{Met}
+use Rattle.map_build.specs.Reading.{meets_at}
 use Rattle.sched_history.specs.Life.{asked_in, grants_since}
+use Rattle.sched_history.specs.Reserves.{met_after}
 use Rattle.sched_report.specs.Delays.{Claim, delays_of, replaced_of, unserved_of}
 use Rattle.sched_report.specs.Lives.{PastLife, spec_after, spec_of}
 use Rattle.sched_report.specs.Requests.{claims_in}
@@ -45,35 +48,38 @@ dropped_in c life = if life.ended then unserved_in c life else 0
 abbrev pub outstanding_in : Config → PastLife → ℕ
 outstanding_in c life = asked_in c life.sid life.since - bytes_of (grants_since life.sid life.since)
 
--- whether an allocation is an unsolicited grant to the unsolicited flow that lives under this SID
-abbrev pub is_grant_to : ℕ → Allocation → Bool
-is_grant_to sid a = a.sid == sid && is_unsolicited (use_of a.sid a.iuc true)
+-- whether an allocation is an unsolicited grant to the unsolicited flow that lives under this SID, where these are the
+-- opportunities that its MAP meets: none of those is
+abbrev pub is_grant_to : List Met → ℕ → Allocation → Bool
+is_grant_to met sid a = a.sid == sid && is_unsolicited (use_of a (meets_at met a.offset) true)
 
 -- the bytes of an allocation, where it is an unsolicited grant to a flow with these parameters, which lives under this
 -- SID: as many as it has now
-abbrev pub unsolicited_at : FlowSpec → ℕ → Allocation → ℕ
-unsolicited_at (flows.Unsolicited size interval jitter grants) sid a = if is_grant_to sid a then size else 0
-unsolicited_at (flows.Polled interval jitter rate burst) sid a = 0
-unsolicited_at (flows.BestEffort priority rate burst) sid a = 0
+abbrev pub unsolicited_at : List Met → FlowSpec → ℕ → Allocation → ℕ
+unsolicited_at met (flows.Unsolicited size interval jitter grants) sid a = if is_grant_to met sid a then size else 0
+unsolicited_at met (flows.Polled interval jitter rate burst) sid a = 0
+unsolicited_at met (flows.BestEffort priority rate burst) sid a = 0
 
--- the bytes of the unsolicited grants that a MAP has to it
-abbrev pub unsolicited_of_map : FlowSpec → ℕ → FrameMap → ℕ
-unsolicited_of_map spec sid m = sum_by (unsolicited_at spec sid) (allocations_of m.wire.elements)
+-- the bytes of the unsolicited grants that a MAP has to it, which meets these
+abbrev pub unsolicited_of_map : List Met → FlowSpec → ℕ → FrameMap → ℕ
+unsolicited_of_map met spec sid m = sum_by (unsolicited_at met spec sid) (allocations_of m.wire.elements)
 
 -- and a reply
-abbrev pub unsolicited_by : FlowSpec → ℕ → Reply → ℕ
-unsolicited_by spec sid (replies.Built m) = unsolicited_of_map spec sid m
-unsolicited_by spec sid reply = 0
+abbrev pub unsolicited_by : List Met → FlowSpec → ℕ → Reply → ℕ
+unsolicited_by met spec sid (replies.Built m) = unsolicited_of_map met spec sid m
+unsolicited_by met spec sid reply = 0
 
--- and entries of a life that stand behind others, each with the parameters that the flow has there
-abbrev pub unsolicited_after : ℕ → FlowSpec → List Entry → List Entry → ℕ
-unsolicited_after sid first before [] = 0
-unsolicited_after sid first before (e ∷ es) =
-    unsolicited_by (spec_after sid first before) sid e.reply + unsolicited_after sid first (before ++ e ∷ []) es
+-- and entries that follow some of a life, which follow its admission: each with the parameters that the flow has there,
+-- and with what its MAP meets there
+abbrev pub unsolicited_after : Config → ℕ → FlowSpec → List Entry → List Entry → List Entry → ℕ
+unsolicited_after c sid first upto before [] = 0
+unsolicited_after c sid first upto before (e ∷ es) =
+    unsolicited_by (met_after c (upto ++ before) e.reply) (spec_after sid first before) sid e.reply
+    + unsolicited_after c sid first upto (before ++ e ∷ []) es
 
 -- the bytes of the unsolicited grants of a life
-abbrev pub unsolicited_in : PastLife → ℕ
-unsolicited_in life = unsolicited_after life.sid life.first [] life.since
+abbrev pub unsolicited_in : Config → PastLife → ℕ
+unsolicited_in c life = unsolicited_after c life.sid life.first life.upto [] life.since
 
 -- the bytes of the unsolicited grants of a flow, or else of its data grants
 abbrev pub granted_under : FlowSpec → ℕ → ℕ → ℕ
@@ -82,8 +88,8 @@ granted_under (flows.Polled interval jitter rate burst) unsolicited bytes = byte
 granted_under (flows.BestEffort priority rate burst) unsolicited bytes = bytes
 
 -- the bytes that a life was granted
-abbrev pub granted_in : PastLife → ℕ
-granted_in life = granted_under (spec_of life) (unsolicited_in life) (bytes_of (grants_since life.sid life.since))
+abbrev pub granted_in : Config → PastLife → ℕ
+granted_in c life = granted_under (spec_of life) (unsolicited_in c life) (bytes_of (grants_since life.sid life.since))
 
 -- the priority of a best effort flow
 abbrev pub priority_of : FlowSpec → Option ℕ

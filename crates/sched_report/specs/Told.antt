@@ -5,12 +5,14 @@ use Rattle.minislots.specs.declared.config.Config.{Config}
 use Rattle.minislots.specs.Config.{IsLawful}
 use Rattle.flow_book.specs.declared.flow.Grant.{Grant}
 use Rattle.flow_book.specs.Flows.{bytes_of}
+use Rattle.map_build.specs.declared.met.Met.{Met}
 use Rattle.sched_calls.specs.declared.frame_map.FrameMap.{FrameMap}
 use Rattle.sched_calls.specs.declared.reply.Reply.TheVariants.{Built}
 use Rattle.sched_calls.specs.declared.reply.Entry.{Entry}
 use Rattle.sched_calls.specs.declared.reply.TheConstants.{MAX_WHOLE_HISTORY}
 use Rattle.sched_history.specs.Life.{asked_in, grants_since}
 use Rattle.sched_history.specs.Facts.{IsOrderly}
+use Rattle.sched_history.specs.Reserves.{met_after}
 use Rattle.sched_history.specs.Time.{next_after}
 use Rattle.sched_report.specs.declared.service.Service.{Service}
 use Rattle.sched_report.specs.declared.life.LifeTally.{LifeTally}
@@ -28,7 +30,7 @@ pub record IsLifeOf (c : Config) (t : LifeTally) (life : PastLife) : Type 0 wher
   pub to : t.to ≡ (if life.ended then Some (next_after c (life.upto ++ life.since)) else None)
   pub service : IsServiceAfter c t.service life.sid life.since
   pub few : length life.since ≤ MAX_WHOLE_HISTORY
-  pub unsolicited : t.unsolicited ≡ unsolicited_in life
+  pub unsolicited : t.unsolicited ≡ unsolicited_in c life
   pub bounded : t.unsolicited ≤ 240 * 2 ^ 32 * length life.since
 
 -- there is room for one request more
@@ -45,6 +47,10 @@ pub record MayNote (c : Config) (life : PastLife) (slot : ℕ) (e : Entry) : Typ
       × (asked_in c life.sid (life.since ++ e ∷ []) < 2 ^ 64)
   pub start : (m : FrameMap) → e.reply ≡ Built m → m.start < 2 ^ 62
   pub orderly : (m : FrameMap) → e.reply ≡ Built m → IsOrderly c m
+
+-- the MAP of an entry that follows a life that goes on meets these opportunities
+abbrev pub Meets : Config → PastLife → Entry → List Met → Type 0
+Meets c life e met = life.ended ≡ false → met ≡ met_after c (life.upto ++ life.since) e.reply
 
 -- These data grants may be counted: their bytes were asked
 pub record MayGrantAll (c : Config) (s : Service) (more : List Grant) : Type 0 where

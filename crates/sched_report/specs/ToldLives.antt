@@ -2,6 +2,7 @@
 use Rattle.std.specs.Prelude.{◌≡◌, ℕ, ◌<◌, ◌^◌, ◌⊎◌, List, ◌++◌, length, slice_index_or}
 use Rattle.minislots.specs.declared.config.Config.{Config}
 use Rattle.minislots.specs.Config.{IsLawful}
+use Rattle.map_build.specs.declared.met.Met.{Met}
 use Rattle.sched_calls.specs.declared.frame_map.FrameMap.{FrameMap}
 use Rattle.sched_calls.specs.declared.call.Call.{Call}
 use Rattle.sched_calls.specs.declared.reply.Reply.{Reply}
@@ -12,6 +13,7 @@ use Rattle.sched_history.specs.Life.{asked_in, grants_since}
 use Rattle.sched_history.specs.Facts.{IsOrderly}
 use Rattle.sched_history.specs.History.{IsStep, IsLegal}
 use Rattle.sched_history.specs.Machine.{MayLackMemory}
+use Rattle.sched_history.specs.Reserves.{met_after}
 use Rattle.sched_history.specs.Time.{next_after}
 use Rattle.sched_report.specs.declared.life.LifeTally.{LifeTally}
 use Rattle.sched_report.specs.declared.life.LifeNumbers.{LifeNumbers}
@@ -20,7 +22,7 @@ use Rattle.sched_report.specs.Lives.{PastLife, spec_of, lives_of, IsRequest, IsO
 use Rattle.sched_report.specs.Spread.{TellsPercentile}
 use Rattle.sched_report.specs.Said.{claims_of, delays_in, priority_of, granted_in, outstanding_in}
 use Rattle.sched_report.specs.Said.{waiting_in, dropped_in}
-use Rattle.sched_report.specs.Told.{IsLifeOf, MayNote}
+use Rattle.sched_report.specs.Told.{IsLifeOf, MayNote, Meets}
 
 -- What is told is of these lives, each at its place
 pub record AreLives (c : Config) (ts : List LifeTally) (lives : List PastLife) : Type 0 where
@@ -32,6 +34,10 @@ pub record AreLives (c : Config) (ts : List LifeTally) (lives : List PastLife) :
 abbrev pub MayNoteEach : Config → List PastLife → ℕ → Entry → Type 0
 MayNoteEach c lives slot e =
     (k : ℕ) (life : PastLife) → k < length lives → MayNote c (slice_index_or lives k life) slot e
+
+-- the MAP of an entry that follows each of the lives meets these opportunities
+abbrev pub MeetsEach : Config → List PastLife → Entry → List Met → Type 0
+MeetsEach c lives e met = (k : ℕ) (life : PastLife) → k < length lives → Meets c (slice_index_or lives k life) e met
 
 -- the MAP of a reply, where it has one, starts in reach and is in order
 abbrev pub HasOrderlyMap : Config → Reply → Type 0
@@ -45,14 +51,17 @@ AddsToReport call reply = IsRequest call reply ⊎ IsOpening call reply
 abbrev pub MayLackReportMemory : Config → List Entry → Entry → Type 0
 MayLackReportMemory c h e = MayLackMemory c h e.call ⊎ AddsToReport e.call e.reply
 
--- What is told is of the lives of this history, which is legal, and the entry may follow it
-pub record MayFollow (c : Config) (h : List Entry) (ts : List LifeTally) (slot : ℕ) (e : Entry) : Type 0 where
+-- What is told is of the lives of this history, which is legal, and the entry may follow it, whose MAP meets these
+-- opportunities then
+pub record MayFollow (c : Config) (h : List Entry) (ts : List LifeTally) (slot : ℕ) (met : List Met) (e : Entry) :
+    Type 0 where
   pub lawful : IsLawful c
   pub legal : IsLegal c h
   pub step : IsStep c h e.call e.reply
   pub short : length h < MAX_WHOLE_HISTORY
   pub next : slot ≡ next_after c h
   pub lives : AreLives c ts (lives_of h)
+  pub meets : met ≡ met_after c h e.reply
 
 -- These are the numbers of a life: where the next frame started at its admission, and where it started at its end or
 -- starts now, whether it ended, what it asked and was granted, its requests that were not served, and the delays that
@@ -65,7 +74,7 @@ pub record AreLifeNumbers (c : Config) (n : LifeNumbers) (life : PastLife) : Typ
   pub ended : n.ended ≡ life.ended
   pub priority : n.priority ≡ priority_of (spec_of life)
   pub sums : AreSums c n.sums (claims_of c life) (asked_in c life.sid life.since) (grants_since life.sid life.since)
-  pub granted : n.granted ≡ granted_in life
+  pub granted : n.granted ≡ granted_in c life
   pub outstanding : n.outstanding ≡ outstanding_in c life
   pub waiting : n.waiting ≡ waiting_in c life
   pub dropped : n.dropped ≡ dropped_in c life

@@ -1,5 +1,5 @@
 -- The numbers of a whole history.
-use Rattle.std.specs.Prelude.{◌≡◌, ℕ, ◌+◌, ◌*◌, ◌^◌, ◌≤◌, ◌&&◌, Bool, true, false, List, [], ◌∷◌}
+use Rattle.std.specs.Prelude.{◌≡◌, ℕ, ◌+◌, ◌*◌, ◌^◌, ◌≤◌, ◌==◌, ◌&&◌, Bool, true, false, List, [], ◌∷◌}
 use Rattle.std.specs.Prelude.{length, count_by, slice_get, Option, None, Some, option_map}
 use Rattle.std.specs.Option.{option_or}
 use Rattle.minislots.specs.declared.config.Config.{Config}
@@ -35,7 +35,8 @@ abbrev pub is_replacement : Call → Reply → Bool
 is_replacement call reply = is_replace call && is_taken reply
 
 -- the numbers of a history: its frames, where the first starts and the last ends, how often frames were left out and
--- requests were superseded, the calls by their kind, and the minislots of the frames by their use
+-- requests were superseded, the calls by their kind, the minislots of the frames by their use, and whether idles are
+-- open to requests
 abbrev pub totals_of : Config → List Entry → Totals
 totals_of c h = record {
   frames = length (maps_of h);
@@ -44,7 +45,8 @@ totals_of c h = record {
   skips = count_by (λ e. is_skip_answer e.reply) h;
   replaces = count_by (λ e. is_replacement e.call e.reply) h;
   calls = calls_of h;
-  slots = slots_of h;
+  slots = slots_of c h;
+  opens = c.open_idle == 1;
 }
 
 -- the numbers with the frame of one MAP more, which has so many minislots, and these by their use

@@ -1,24 +1,33 @@
 -- What the minislots of the frames of a history are for.
-use Rattle.std.specs.Prelude.{◌≡◌, ℕ, ◌+◌, ◌<◌, ◌^◌, ◌==◌, ◌||◌, Bool, true, false, if◌then◌else◌, List, sum_by}
+use Rattle.std.specs.Prelude.{◌≡◌, ℕ, ◌+◌, ◌<◌, ◌^◌, ◌==◌, Bool, true, false, if◌then◌else◌, List, sum_by}
+use Rattle.minislots.specs.declared.config.Config.{Config}
 use Rattle.map_codec.specs.declared.element.Element.{Element}
-use Rattle.map_codec.specs.declared.element.iuc.TheConstants.{REQUEST, INITIAL_MAINTENANCE, STATION_MAINTENANCE}
+use Rattle.map_codec.specs.declared.element.iuc.TheConstants.{REQUEST}
 use Rattle.map_codec.specs.Element.{nulls, Ascends}
 use Rattle.map_drawing.specs.declared.allocation.Allocation.{Allocation}
 use Rattle.map_drawing.specs.declared.usage.TheConstants.{ALL_MODEMS}
 use Rattle.map_drawing.specs.Allocation.{frame_slots, allocations_of}
+use Rattle.map_build.specs.declared.met.Met.{Met}
+use Rattle.map_build.specs.Reading.{meets_at}
+use Rattle.sched_calls.specs.declared.reply.Reply.TheVariants.{Built}
 use Rattle.sched_calls.specs.declared.reply.Entry.{Entry}
+use Rattle.sched_history.specs.Reserves.{met_after}
+use Rattle.frame_picture.specs.OpenIdle.{is_open_idle}
 use Rattle.frame_picture.specs.Frames.{Frame, is_unsolicited_after, frames_of}
 use Rattle.sched_report.specs.declared.slots.Slots.{Slots}
 use Rattle.sched_report.specs.declared.slots.Use.{Use}
-use Rattle.sched_report.specs.declared.slots.Use.TheVariants.{Request, Poll, Unsolicited, Opportunity, Data, Idle}
+use Rattle.sched_report.specs.declared.slots.Use.TheVariants.{Request, Poll, Unsolicited, Opportunity, Data, Open, Idle}
 
--- what the minislots of an element with this service identifier and interval usage code are for, where the flow that
--- lives under it is unsolicited or not: a request region of one modem is a poll, and a grant to none is idle
-unfoldable pub use_of : ℕ → ℕ → Bool → Use
-use_of sid iuc unsolicited =
-    if iuc == REQUEST then if sid == ALL_MODEMS then Request else Poll
-    else if iuc == INITIAL_MAINTENANCE || iuc == STATION_MAINTENANCE then Opportunity
-    else if sid == 0 then Idle
+-- what the minislots of an allocation are for, where a Reserve's opportunity that is met begins there or not, and the
+-- flow that lives under its service identifier is unsolicited or not: what is met is an opportunity, whatever stands
+-- there. Of the others a request region of one modem is a poll, one of all modems behind the first is an open idle, and
+-- a grant to none is idle
+unfoldable pub use_of : Allocation → Bool → Bool → Use
+use_of a met unsolicited =
+    if met then Opportunity
+    else if is_open_idle a then Open
+    else if a.iuc == REQUEST then if a.sid == ALL_MODEMS then Request else Poll
+    else if a.sid == 0 then Idle
     else if unsolicited then Unsolicited
     else Data
 
@@ -37,7 +46,7 @@ abbrev pub is_unsolicited : Use → Bool
 is_unsolicited Unsolicited = true
 is_unsolicited other = false
 
--- it is an opportunity for initial or station maintenance
+-- it is an opportunity that a Reserve asked for
 abbrev pub is_opportunity : Use → Bool
 is_opportunity Opportunity = true
 is_opportunity other = false
@@ -47,44 +56,56 @@ abbrev pub is_data : Use → Bool
 is_data Data = true
 is_data other = false
 
+-- it is an idle that is open to requests
+abbrev pub is_open : Use → Bool
+is_open Open = true
+is_open other = false
+
 -- it is a grant to no modem
 abbrev pub is_idle : Use → Bool
 is_idle Idle = true
 is_idle other = false
 
--- the minislots of an allocation, where it has this use
-abbrev pub slots_with : (Use → Bool) → (ℕ → Bool) → Allocation → ℕ
-slots_with kind unsolicited a = if kind (use_of a.sid a.iuc (unsolicited a.sid)) then a.length else 0
+-- the minislots of an allocation, where it has this use: its MAP meets these opportunities, and each flow is
+-- unsolicited or not
+abbrev pub slots_with : (Use → Bool) → List Met → (ℕ → Bool) → Allocation → ℕ
+slots_with kind met unsolicited a =
+    if kind (use_of a (meets_at met a.offset) (unsolicited a.sid)) then a.length else 0
 
--- the minislots of some allocations by their use, where each flow is unsolicited or not
-abbrev pub slots_among : (ℕ → Bool) → List Allocation → Slots
-slots_among unsolicited some = record {
-  data_grants = sum_by (slots_with is_data unsolicited) some;
-  idle = sum_by (slots_with is_idle unsolicited) some;
-  opportunity = sum_by (slots_with is_opportunity unsolicited) some;
-  poll = sum_by (slots_with is_poll unsolicited) some;
-  request = sum_by (slots_with is_request unsolicited) some;
-  unsolicited = sum_by (slots_with is_unsolicited unsolicited) some;
+-- the minislots of some allocations by their use
+abbrev pub slots_among : List Met → (ℕ → Bool) → List Allocation → Slots
+slots_among met unsolicited some = record {
+  data_grants = sum_by (slots_with is_data met unsolicited) some;
+  idle = sum_by (slots_with is_idle met unsolicited) some;
+  open_idle = sum_by (slots_with is_open met unsolicited) some;
+  opportunity = sum_by (slots_with is_opportunity met unsolicited) some;
+  poll = sum_by (slots_with is_poll met unsolicited) some;
+  request = sum_by (slots_with is_request met unsolicited) some;
+  unsolicited = sum_by (slots_with is_unsolicited met unsolicited) some;
 }
 
--- the minislots of a frame by their use: each belongs to the element that it stands behind, up to the next one
-abbrev pub slots_in : Frame → Slots
-slots_in f = slots_among (is_unsolicited_after f.before) (allocations_of f.built.wire.elements)
+-- the minislots of a frame by their use: each belongs to the element that it stands behind, up to the next one. What
+-- its MAP meets goes by the entries before it and by where its elements begin
+abbrev pub slots_in : Config → Frame → Slots
+slots_in c f =
+    slots_among (met_after c f.before (Built f.built)) (is_unsolicited_after f.before)
+    (allocations_of f.built.wire.elements)
 
 -- the minislots of all frames by their use
-abbrev pub slots_of : List Entry → Slots
-slots_of h = record {
-  data_grants = sum_by (λ f. (slots_in f).data_grants) (frames_of h);
-  idle = sum_by (λ f. (slots_in f).idle) (frames_of h);
-  opportunity = sum_by (λ f. (slots_in f).opportunity) (frames_of h);
-  poll = sum_by (λ f. (slots_in f).poll) (frames_of h);
-  request = sum_by (λ f. (slots_in f).request) (frames_of h);
-  unsolicited = sum_by (λ f. (slots_in f).unsolicited) (frames_of h);
+abbrev pub slots_of : Config → List Entry → Slots
+slots_of c h = record {
+  data_grants = sum_by (λ f. (slots_in c f).data_grants) (frames_of h);
+  idle = sum_by (λ f. (slots_in c f).idle) (frames_of h);
+  open_idle = sum_by (λ f. (slots_in c f).open_idle) (frames_of h);
+  opportunity = sum_by (λ f. (slots_in c f).opportunity) (frames_of h);
+  poll = sum_by (λ f. (slots_in c f).poll) (frames_of h);
+  request = sum_by (λ f. (slots_in c f).request) (frames_of h);
+  unsolicited = sum_by (λ f. (slots_in c f).unsolicited) (frames_of h);
 }
 
 -- the minislots of all uses together
 abbrev pub all_slots : Slots → ℕ
-all_slots s = s.data_grants + s.idle + s.opportunity + s.poll + s.request + s.unsolicited
+all_slots s = s.data_grants + s.idle + s.open_idle + s.opportunity + s.poll + s.request + s.unsolicited
 
 -- the minislots of one use more
 abbrev pub with_slots : Slots → Use → ℕ → Slots
@@ -93,6 +114,7 @@ with_slots s Poll n = record s { poll = s.poll + n }
 with_slots s Unsolicited n = record s { unsolicited = s.unsolicited + n }
 with_slots s Opportunity n = record s { opportunity = s.opportunity + n }
 with_slots s Data n = record s { data_grants = s.data_grants + n }
+with_slots s Open n = record s { open_idle = s.open_idle + n }
 with_slots s Idle n = record s { idle = s.idle + n }
 
 -- the minislots of two together
@@ -100,6 +122,7 @@ abbrev pub sum_of : Slots → Slots → Slots
 sum_of a b = record {
   data_grants = a.data_grants + b.data_grants;
   idle = a.idle + b.idle;
+  open_idle = a.open_idle + b.open_idle;
   opportunity = a.opportunity + b.opportunity;
   poll = a.poll + b.poll;
   request = a.request + b.request;

@@ -31,7 +31,7 @@ use flow_book::{FlowSpec, Grant};
 use map_codec::Element;
 use map_drawing::Allocation;
 use minislots::Checked;
-use sched_history::{Call, Entry, Reply};
+use sched_history::{Call, Entry, Met, Reply, meets_at};
 use std::alloc::{AllocError, Global};
 use std::slice;
 
@@ -165,7 +165,7 @@ impl LifeTally {
     pub(crate) fn granted(&self) -> u128
         requires { (c : Config) × (life : PastLife) × IsLifeOf c self.now life }
         ensures granted { (c : Config) (life : PastLife) → IsLifeOf c self.now life
-            → result ≡ granted_in life }
+            → result ≡ granted_in c life }
         ensures few { result < 2 ^ 90 }
     {
         match self.spec {
@@ -250,16 +250,17 @@ impl LifeTally {
         grant_element(&mut self.service, config, self.sid, start, element, bytes);
     }
 
-    // Counts the bytes of an allocation, where it is an unsolicited grant to this life.
-    pub(crate) fn count_grant(&mut self, allocation: Allocation)
+    // Counts the bytes of an allocation, where it is an unsolicited grant to this life: its MAP meets these
+    // opportunities.
+    pub(crate) fn count_grant(&mut self, met: &[Met], allocation: Allocation)
         requires { self.old.to ≡ None → self.old.unsolicited + 2 ^ 32 ≤ 2 ^ 100 }
         ensures { (c : Config) → HasMore c [] 1
-            (unsolicited_at self.old.spec self.old.sid allocation) self.old self.new }
+            (unsolicited_at met.now self.old.spec self.old.sid allocation) self.old self.new }
     {
         if self.to.is_some() {
             return;
         }
-        self.unsolicited += u128::from(unsolicited_at(self.spec, self.sid, allocation));
+        self.unsolicited += u128::from(unsolicited_at(met, self.spec, self.sid, allocation));
     }
 }
 
@@ -285,21 +286,23 @@ fn is_of_rank(spec: FlowSpec, rank: u8) -> bool
 }
 
 // The bytes of an allocation, where it is an unsolicited grant to a flow with these parameters, which lives under this
-// SID.
-fn unsolicited_at(spec: FlowSpec, sid: u16, allocation: Allocation) -> u32
-    ensures { result ≡ unsolicited_at spec sid allocation }
+// SID: its MAP meets these opportunities.
+fn unsolicited_at(met: &[Met], spec: FlowSpec, sid: u16, allocation: Allocation) -> u32
+    ensures { result ≡ unsolicited_at met.now spec sid allocation }
 {
     match spec {
-        FlowSpec::Unsolicited { size, .. } if is_grant_to(sid, allocation) => size,
+        FlowSpec::Unsolicited { size, .. } if is_grant_to(met, sid, allocation) => size,
         _ => 0,
     }
 }
 
-// Whether an allocation is an unsolicited grant to the unsolicited flow that lives under this SID.
-fn is_grant_to(sid: u16, allocation: Allocation) -> bool
-    ensures { result ≡ is_grant_to sid allocation }
+// Whether an allocation is an unsolicited grant to the unsolicited flow that lives under this SID: its MAP meets these
+// opportunities.
+fn is_grant_to(met: &[Met], sid: u16, allocation: Allocation) -> bool
+    ensures { result ≡ is_grant_to met.now sid allocation }
 {
-    allocation.sid == sid && Use::of(allocation.sid, allocation.iuc, true).is_unsolicited()
+    let met = meets_at(met, allocation.offset);
+    allocation.sid == sid && Use::of(allocation, met, true).is_unsolicited()
 }
 
 // Whether an entry is an accepted admission or removal of this SID.

@@ -15,7 +15,8 @@ ghost use Rattle.sched_report.specs.Lives.{PastLife, opening_by, life_begun, liv
 ghost use Rattle.sched_report.specs.Lives.{IsRequest, IsOpening};
 ghost use Rattle.sched_report.specs.Named.{HasNoMap};
 ghost use Rattle.sched_report.specs.Said.{unsolicited_at, unsolicited_of_map};
-ghost use Rattle.sched_report.specs.ToldLives.{AreLives, MayNoteEach, HasOrderlyMap, AddsToReport, MayFollow};
+ghost use Rattle.sched_report.specs.ToldLives.{AreLives, MayNoteEach, MeetsEach, HasOrderlyMap, AddsToReport};
+ghost use Rattle.sched_report.specs.ToldLives.{MayFollow};
 
 use crate::life::LifeTally;
 use crate::named::named_by;
@@ -24,7 +25,7 @@ use map_build::FrameMap;
 use map_codec::Element;
 use map_drawing::{Allocation, allocation_at, front_len};
 use minislots::Checked;
-use sched_history::{Call, Entry, Reply};
+use sched_history::{Call, Entry, Met, Reply};
 use std::alloc::{AllocError, Global};
 
 // The SID and the parameters of an accepted admission.
@@ -120,47 +121,55 @@ fn grant_each(
     }
 }
 
-// Counts the bytes of an allocation in the life to which it is an unsolicited grant.
-fn count_at(lives: &mut [LifeTally], places: &[usize], allocation: Allocation)
+// Counts the bytes of an allocation in the life to which it is an unsolicited grant: its MAP meets these opportunities.
+fn count_at(lives: &mut [LifeTally], places: &[usize], met: &[Met], allocation: Allocation)
     requires live { AreLive places.now lives.old }
     requires few { MayCountEach 1 lives.old }
     ensures { (c : Config) → HaveMore c (λ sid. []) 1
-        (λ spec sid. unsolicited_at spec sid allocation) lives.old lives.new }
+        (λ spec sid. unsolicited_at met.now spec sid allocation) lives.old lives.new }
 {
     let place = place_under(places, allocation.sid);
     if place < lives.len() {
-        lives[place].count_grant(allocation);
+        lives[place].count_grant(met, allocation);
     }
 }
 
-// Counts the bytes of the allocations of elements in the lives to which they are unsolicited grants.
-fn count_each(lives: &mut [LifeTally], places: &[usize], elements: &[Element])
+// Counts the bytes of the allocations of elements in the lives to which they are unsolicited grants: their MAP meets
+// these opportunities.
+fn count_each(lives: &mut [LifeTally], places: &[usize], met: &[Met], elements: &[Element])
     requires front { (c : Config) × HasFront c elements.now }
     requires live { AreLive places.now lives.old }
     requires few { MayCountEach (length elements.now) lives.old }
     ensures { (c : Config) → HaveMore c (λ sid. []) (length elements.now)
-        (λ spec sid. sum_by (unsolicited_at spec sid) (allocations_of elements.now))
+        (λ spec sid. sum_by (unsolicited_at met.now spec sid) (allocations_of elements.now))
         lives.old lives.new }
 {
     for i in 0..front_len(elements) {
-        count_at(lives, places, allocation_at(elements, i));
+        count_at(lives, places, met, allocation_at(elements, i));
     }
 }
 
-// Counts the grants of a MAP, of both kinds.
-fn note_map(lives: &mut [LifeTally], places: &[usize], config: &Checked, map: &FrameMap)
+// Counts the grants of a MAP that meets these opportunities, of both kinds.
+fn note_map(
+    lives: &mut [LifeTally],
+    places: &[usize],
+    config: &Checked,
+    met: &[Met],
+    map: &FrameMap,
+)
     requires start { map.now.start < 2 ^ 62 }
     requires orderly { IsOrderly config.now map.now }
     requires live { AreLive places.now lives.old }
     requires few { MayCountEach (length map.now.wire.elements) lives.old }
     requires granted { MayGrantEach config.now (λ sid. grants_of_map sid map.now) lives.old }
     ensures { HaveMore config.now (λ sid. grants_of_map sid map.now)
-        (length map.now.wire.elements) (λ spec sid. unsolicited_of_map spec sid map.now) lives.old lives.new }
+        (length map.now.wire.elements) (λ spec sid. unsolicited_of_map met.now spec sid map.now)
+        lives.old lives.new }
 {
     let elements = map.wire.elements.as_slice();
     let counts = map.bytes.as_slice();
     grant_each(lives, places, config, map.start, elements, counts);
-    count_each(lives, places, elements);
+    count_each(lives, places, met, elements);
 }
 
 // Goes on with an entry that has no MAP.
@@ -185,12 +194,13 @@ fn note_named(lives: &mut [LifeTally], places: &[usize], config: &Checked, next:
     }
 }
 
-// Goes on with one entry more, before which the next frame starts there.
+// Goes on with one entry more, before which the next frame starts there, and whose MAP meets these opportunities.
 pub(crate) fn note_each(
     lives: &mut [LifeTally],
     places: &[usize],
     config: &Checked,
     next: u64,
+    met: &[Met],
     entry: &Entry,
 )
     requires may { (ls : List PastLife) × AreLives config.now lives.old ls
@@ -200,12 +210,12 @@ pub(crate) fn note_each(
     requires live { AreLive places.now lives.old }
     requires orderly { HasOrderlyMap config.now entry.now.reply }
     ensures lives { (ls : List PastLife) → AreLives config.now lives.old ls
-        → MayNoteEach config.now ls next entry.now
+        → MayNoteEach config.now ls next entry.now → MeetsEach config.now ls entry.now met.now
         → AreLives config.now lives.new (map (with_entry entry.now) ls) }
     ensures live { AreLive places.now lives.new }
 {
     match &entry.reply {
-        Reply::Built(map) => note_map(lives, places, config, map),
+        Reply::Built(map) => note_map(lives, places, config, met, map),
         _ => note_named(lives, places, config, next, entry),
     }
 }
@@ -285,29 +295,33 @@ pub(crate) fn next_with(next: u64, config: &Checked, entry: &Entry) -> u64
     }
 }
 
-// Goes on with an entry that follows the history of these lives, before which the next frame starts there, and answers
-// where it starts then.
+// Goes on with an entry that follows the history of these lives, before which the next frame starts there, and whose
+// MAP meets these opportunities. Answers where the next frame starts then.
 pub(crate) fn follow(
     lives: &mut Vec<LifeTally>,
     places: &mut [usize],
     config: &Checked,
     alloc: Global,
     next: u64,
+    met: &[Met],
     entry: &Entry,
 ) -> u64
-    requires may { (h : List Recorded) × MayFollow config.now h lives.old.items next entry.now }
+    requires may { (h : List Recorded)
+        × MayFollow config.now h lives.old.items next met.now entry.now }
     requires requests { IsRequest entry.now.call entry.now.reply
         → HaveRoomFor config.now entry.now.call entry.now.reply lives.old.items }
     requires opening { IsOpening entry.now.call entry.now.reply
         → vec_len lives.old < vec_capacity lives.old }
     requires live { AreLive places.old lives.old.items }
-    ensures lives { (h : List Recorded) → MayFollow config.now h lives.old.items next entry.now
+    ensures lives { (h : List Recorded)
+        → MayFollow config.now h lives.old.items next met.now entry.now
         → AreLives config.now lives.new.items (lives_of (h ++ entry.now ∷ [])) }
     ensures live { AreLive places.new lives.new.items }
-    ensures next { (h : List Recorded) → MayFollow config.now h lives.old.items next entry.now
+    ensures next { (h : List Recorded)
+        → MayFollow config.now h lives.old.items next met.now entry.now
         → result ≡ next_after config.now (h ++ entry.now ∷ []) }
 {
-    note_each(lives, places, config, next, entry);
+    note_each(lives, places, config, next, met, entry);
     let after = next_with(next, config, entry);
     begin_life(lives, places, alloc, after, entry);
     after

@@ -70,7 +70,7 @@ impl Reporter {
             alloc,
             next: config.start(),
             flows: Box::new(alloc, no_flows())?,
-            totals: Totals::none(),
+            totals: Totals::none(&config),
             refused: [0; REFUSALS],
             lives: Vec::new(alloc),
             places: vec![in alloc; 0; SIDS]?,
@@ -104,8 +104,13 @@ impl Reporter {
             Ok(()) => {}
             Err(_) => return Err(JudgeFault::Memory),
         }
+        // What its MAP meets is told by the entries before it.
+        let Ok(met) = self.auditor.met(entry) else {
+            return Err(JudgeFault::Memory);
+        };
         self.auditor.judge(entry)?;
-        self.totals.add(&self.config, &self.flows, entry);
+        self.totals
+            .add(&self.config, &self.flows, met.as_slice(), entry);
         count_refusal(&mut self.refused, entry);
         note(&mut self.flows, entry);
         self.next = follow(
@@ -114,6 +119,7 @@ impl Reporter {
             &self.config,
             self.alloc,
             self.next,
+            met.as_slice(),
             entry,
         );
         Ok(())

@@ -7,9 +7,10 @@ ghost use Rattle.frame_picture.specs.Frames.{is_unsolicited_after, TellsUnsolici
 ghost use Rattle.sched_report.specs.Uses.{is_unsolicited, use_of, slots_among, all_slots, with_slots};
 ghost use Rattle.sched_report.specs.Uses.{sum_of, AreOfFrame};
 
-use frame_picture::Flows;
+use frame_picture::{Flows, is_open_idle};
 use map_codec::{Element, iuc};
-use map_drawing::{ALL_MODEMS, allocation_at, front_len};
+use map_drawing::{ALL_MODEMS, Allocation, allocation_at, front_len};
+use sched_history::{Met, meets_at};
 
 /// What minislots of a frame are for.
 #[derive(Clone, Copy)]
@@ -20,26 +21,33 @@ pub enum Use {
     Poll,
     /// A grant to an unsolicited flow.
     Unsolicited,
-    /// An opportunity for initial or station maintenance.
+    /// An opportunity that a Reserve asked for, of any kind.
     Opportunity,
     /// A data grant, for bytes that were asked.
     Data,
+    /// An idle that is open to requests.
+    Open,
     /// A grant to no modem.
     Idle,
 }
 
 impl Use {
-    // What an element with this service identifier and interval usage code is for, where the flow that lives under the
-    // service identifier is unsolicited or not.
+    // What an allocation is for, where an opportunity that is met begins there or not, and the flow that lives under
+    // its service identifier is unsolicited or not.
     #[tactic(auto, unfolding(crate::specs::Uses::use_of))]
-    pub(crate) fn of(sid: u16, code: u8, unsolicited: bool) -> Use
-        ensures { result ≡ use_of sid code unsolicited }
+    pub(crate) fn of(allocation: Allocation, met: bool, unsolicited: bool) -> Use
+        ensures { result ≡ use_of allocation met unsolicited }
     {
-        match code {
-            iuc::REQUEST if sid == ALL_MODEMS => Use::Request,
+        if met {
+            return Use::Opportunity;
+        }
+        if is_open_idle(allocation) {
+            return Use::Open;
+        }
+        match allocation.iuc {
+            iuc::REQUEST if allocation.sid == ALL_MODEMS => Use::Request,
             iuc::REQUEST => Use::Poll,
-            iuc::INITIAL_MAINTENANCE | iuc::STATION_MAINTENANCE => Use::Opportunity,
-            _ if sid == 0 => Use::Idle,
+            _ if allocation.sid == 0 => Use::Idle,
             _ if unsolicited => Use::Unsolicited,
             _ => Use::Data,
         }
@@ -60,7 +68,9 @@ pub struct Slots {
     pub data_grants: u64,
     /// Minislots of grants to no modem.
     pub idle: u64,
-    /// Minislots of opportunities for initial or station maintenance.
+    /// Minislots of idles that are open to requests.
+    pub open_idle: u64,
+    /// Minislots of opportunities that Reserves asked for.
     pub opportunity: u64,
     /// Minislots of polls.
     pub poll: u64,
@@ -76,6 +86,7 @@ impl Slots {
         ensures { result ≡ record {
           data_grants = 0;
           idle = 0;
+          open_idle = 0;
           opportunity = 0;
           poll = 0;
           request = 0;
@@ -85,6 +96,7 @@ impl Slots {
         Slots {
             data_grants: 0,
             idle: 0,
+            open_idle: 0,
             opportunity: 0,
             poll: 0,
             request: 0,
@@ -104,6 +116,7 @@ impl Slots {
             Use::Unsolicited => slots.unsolicited += length,
             Use::Opportunity => slots.opportunity += length,
             Use::Data => slots.data_grants += length,
+            Use::Open => slots.open_idle += length,
             Use::Idle => slots.idle += length,
         }
         slots
@@ -117,6 +130,7 @@ impl Slots {
         Slots {
             data_grants: self.data_grants + other.data_grants,
             idle: self.idle + other.idle,
+            open_idle: self.open_idle + other.open_idle,
             opportunity: self.opportunity + other.opportunity,
             poll: self.poll + other.poll,
             request: self.request + other.request,
@@ -124,18 +138,19 @@ impl Slots {
         }
     }
 
-    // The minislots of the elements of a frame, where it is told which flows are unsolicited.
-    pub(crate) fn of_frame(flows: &Flows, elements: &[Element]) -> Slots
+    // The minislots of the elements of a frame, which meets these opportunities, where it is told which flows are
+    // unsolicited.
+    pub(crate) fn of_frame(flows: &Flows, met: &[Met], elements: &[Element]) -> Slots
         requires { AreOfFrame elements.now }
         ensures value { (h : List Entry) → TellsUnsolicited flows.now h
-            → result ≡ slots_among (is_unsolicited_after h) (allocations_of elements.now) }
+            → result ≡ slots_among met.now (is_unsolicited_after h) (allocations_of elements.now) }
         ensures all { all_slots result ≤ frame_slots elements.now }
     {
         let mut slots = Slots::none();
         for i in 0..front_len(elements) {
             let allocation = allocation_at(elements, i);
             let unsolicited = flows[usize::from(allocation.sid)];
-            let kind = Use::of(allocation.sid, allocation.iuc, unsolicited);
+            let kind = Use::of(allocation, meets_at(met, allocation.offset), unsolicited);
             slots = slots.with(kind, u64::from(allocation.length));
         }
         slots

@@ -2,9 +2,9 @@
 
 ghost use Rattle.std.specs.Prelude.{◌≡◌, ◌+◌, ◌^◌, ◌<◌, ◌≤◌, ◌∷◌, ◌++◌, [], List, if◌then◌else◌};
 ghost use Rattle.sched_calls.specs.declared.reply.Entry.{Entry as Recorded};
-ghost use Rattle.minislots.specs.declared.config.Config.{Config};
-ghost use Rattle.frame_picture.specs.Frames.{TellsUnsolicited};
-ghost use Rattle.sched_report.specs.Uses.{slots_in, all_slots, AreOfFrame};
+ghost use Rattle.map_drawing.specs.Allocation.{allocations_of};
+ghost use Rattle.frame_picture.specs.Frames.{is_unsolicited_after, TellsUnsolicited};
+ghost use Rattle.sched_report.specs.Uses.{slots_among, all_slots, AreOfFrame};
 ghost use Rattle.sched_report.specs.Totals.{is_replacement, with_frame, AreTotals};
 ghost use Rattle.sched_report.specs.Counted.{IsCounted};
 
@@ -13,7 +13,7 @@ use crate::slots::Slots;
 use frame_picture::Flows;
 use map_build::FrameMap;
 use minislots::Checked;
-use sched_history::{Call, Entry, Reply};
+use sched_history::{Call, Entry, Met, Reply};
 
 /// The numbers of a whole history.
 #[derive(Clone, Copy)]
@@ -32,12 +32,14 @@ pub struct Totals {
     pub calls: Calls,
     /// The minislots of the frames by their use.
     pub slots: Slots,
+    /// Whether idles are open to requests.
+    pub opens: bool,
 }
 
 impl Totals {
-    // Those of no entry, whatever the configuration.
-    pub(crate) fn none() -> Totals
-        ensures { (c : Config) → AreTotals c [] result }
+    // Those of no entry under a configuration.
+    pub(crate) fn none(config: &Checked) -> Totals
+        ensures { AreTotals config.now [] result }
     {
         Totals {
             frames: 0,
@@ -47,37 +49,39 @@ impl Totals {
             replaces: 0,
             calls: Calls::none(),
             slots: Slots::none(),
+            opens: config.open_idle() == 1,
         }
     }
 
-    // Counts an entry that follows those counted.
-    pub(crate) fn add(&mut self, config: &Checked, flows: &Flows, entry: &Entry)
-        requires { (h : List Recorded) × IsCounted config.now h self.old flows.now entry.now }
-        ensures { (h : List Recorded) → IsCounted config.now h self.old flows.now entry.now
+    // Counts an entry that follows those counted, whose MAP meets these opportunities.
+    pub(crate) fn add(&mut self, config: &Checked, flows: &Flows, met: &[Met], entry: &Entry)
+        requires { (h : List Recorded)
+            × IsCounted config.now h self.old flows.now met.now entry.now }
+        ensures { (h : List Recorded) → IsCounted config.now h self.old flows.now met.now entry.now
             → AreTotals config.now (h ++ entry.now ∷ []) self.new }
     {
         let frame = config.frame();
         self.calls.add(entry);
         self.replaces += replacements_in(entry);
         match &entry.reply {
-            Reply::Built(map) => self.add_frame(frame, flows, map),
+            Reply::Built(map) => self.add_frame(frame, flows, met, map),
             Reply::Skipped(_) => self.skips += 1,
             _ => {}
         }
     }
 
-    // Counts the frame of a MAP, of so many minislots.
-    fn add_frame(&mut self, frame: u32, flows: &Flows, map: &FrameMap)
+    // Counts the frame of a MAP, of so many minislots, which meets these opportunities.
+    fn add_frame(&mut self, frame: u32, flows: &Flows, met: &[Met], map: &FrameMap)
         requires frames { self.old.frames < 2 ^ 44 }
         requires start { map.now.start < 2 ^ 62 }
         requires slots { all_slots self.old.slots < 2 ^ 60 }
         requires elements { AreOfFrame map.now.wire.elements }
         ensures value { (h : List Recorded) → TellsUnsolicited flows.now h
             → self.new ≡ with_frame frame self.old map.now
-            (slots_in (record { before = h; built = map.now })) }
+            (slots_among met.now (is_unsolicited_after h) (allocations_of map.now.wire.elements)) }
         ensures bounded { all_slots self.new.slots ≤ all_slots self.old.slots + 2 ^ 14 }
     {
-        let slots = Slots::of_frame(flows, map.wire.elements.as_slice());
+        let slots = Slots::of_frame(flows, met, map.wire.elements.as_slice());
         self.frames += 1;
         self.from = self.from.or(Some(map.start));
         self.to = Some(map.start + u64::from(frame));

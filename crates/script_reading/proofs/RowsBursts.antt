@@ -12,7 +12,7 @@ use Rattle.sched_calls.proofs.Base.{base}
 use Rattle.text_stream.specs.declared.fault.TextFault.TheVariants.{Shape, Config}
 use Rattle.json_fields.specs.Fields.{config_of, slots_of, bursts_of, uniform_of, descriptors_of, profile_at, profile_of}
 use Rattle.json_fields.specs.Fields.{sizes_of, counts_of, windows_of, u8_or, u8_at, u32_at, u64_at, number_at}
-use Rattle.json_fields.specs.Fields.{limits_of, u32_or}
+use Rattle.json_fields.specs.Fields.{limits_of, idles_of, u32_or}
 use Rattle.script_reading.specs.Script.{calls_of, script_of}
 use Rattle.text_stream.specs.Input.{value_of}
 use Rattle.script_reading.specs.Outcome.{text_outcome, outcome_of}
@@ -53,7 +53,7 @@ burst_descriptors : outcome_of (script (codes "2") (codes "40") (bursts (long_bu
   calls = [];
 })
 unfolding outcome_of text_outcome value_of script_of calls_of config_of slots_of bursts_of descriptors_of profile_at
-    profile_of sizes_of counts_of windows_of limits_of u8_or u32_or u8_at u32_at u64_at number_at first_wrong
+    profile_of sizes_of counts_of windows_of limits_of idles_of u8_or u32_or u8_at u32_at u64_at number_at first_wrong
     slots_by is_utf8 chars encode_utf8 serde_json_on_literals
 burst_descriptors = refl
 
@@ -61,7 +61,7 @@ burst_descriptors = refl
 a_codeword_of_256_bytes : outcome_of (script (codes "2") (codes "40") (bursts (long_bursts (codes "238"))))
     ≡ Err (Config Bursts)
 unfolding outcome_of text_outcome value_of script_of calls_of config_of slots_of bursts_of descriptors_of profile_at
-    profile_of sizes_of counts_of windows_of limits_of u8_or u32_or u8_at u32_at u64_at number_at first_wrong
+    profile_of sizes_of counts_of windows_of limits_of idles_of u8_or u32_or u8_at u32_at u64_at number_at first_wrong
     is_utf8 chars encode_utf8 serde_json_on_literals
 a_codeword_of_256_bytes = refl
 
@@ -69,7 +69,7 @@ a_codeword_of_256_bytes = refl
 ticks_are_tested_before_bursts : outcome_of (script (codes "3") (codes "40") (bursts (long_bursts (codes "238"))))
     ≡ Err (Config Ticks)
 unfolding outcome_of text_outcome value_of script_of calls_of config_of slots_of bursts_of descriptors_of profile_at
-    profile_of sizes_of counts_of windows_of limits_of u8_or u32_or u8_at u32_at u64_at number_at first_wrong
+    profile_of sizes_of counts_of windows_of limits_of idles_of u8_or u32_or u8_at u32_at u64_at number_at first_wrong
     is_utf8 chars encode_utf8 serde_json_on_literals
 ticks_are_tested_before_bursts = refl
 
@@ -77,14 +77,14 @@ ticks_are_tested_before_bursts = refl
 bursts_are_tested_before_the_frame : outcome_of (script (codes "2") (codes "15") (bursts (long_bursts (codes "238"))))
     ≡ Err (Config Bursts)
 unfolding outcome_of text_outcome value_of script_of calls_of config_of slots_of bursts_of descriptors_of profile_at
-    profile_of sizes_of counts_of windows_of limits_of u8_or u32_or u8_at u32_at u64_at number_at first_wrong
+    profile_of sizes_of counts_of windows_of limits_of idles_of u8_or u32_or u8_at u32_at u64_at number_at first_wrong
     is_utf8 chars encode_utf8 serde_json_on_literals
 bursts_are_tested_before_the_frame = refl
 
 -- without a descriptor of long grants
 bursts_without_long_grants : outcome_of (script (codes "2") (codes "40") (bursts [])) ≡ Err (Shape 0)
 unfolding outcome_of text_outcome value_of script_of calls_of config_of slots_of bursts_of descriptors_of profile_at
-    profile_of sizes_of counts_of windows_of limits_of u8_or u32_or u8_at u32_at u64_at number_at first_wrong
+    profile_of sizes_of counts_of windows_of limits_of idles_of u8_or u32_or u8_at u32_at u64_at number_at first_wrong
     is_utf8 chars encode_utf8 serde_json_on_literals
 bursts_without_long_grants = refl
 
@@ -92,13 +92,13 @@ bursts_without_long_grants = refl
 bursts_of_null : outcome_of (script (codes "4") (codes "40")
     (codes ",\"bytes_per_slot\":16,\"overhead\":2,\"bursts\":null")) ≡ Err (Shape 0)
 unfolding outcome_of text_outcome value_of script_of calls_of config_of slots_of bursts_of descriptors_of profile_at
-    profile_of sizes_of counts_of windows_of limits_of u8_or u32_or u8_at u32_at u64_at number_at first_wrong
+    profile_of sizes_of counts_of windows_of limits_of idles_of u8_or u32_or u8_at u32_at u64_at number_at first_wrong
     is_utf8 chars encode_utf8 serde_json_on_literals
 bursts_of_null = refl
 
 -- the overhead alone is not enough
 an_overhead_without_bytes : outcome_of (script (codes "4") (codes "40") (codes ",\"overhead\":2")) ≡ Err (Shape 0)
 unfolding outcome_of text_outcome value_of script_of calls_of config_of slots_of bursts_of uniform_of sizes_of
-    counts_of windows_of limits_of u8_or u32_or u8_at u32_at u64_at number_at first_wrong is_utf8 chars encode_utf8
-    serde_json_on_literals
+    counts_of windows_of limits_of idles_of u8_or u32_or u8_at u32_at u64_at number_at first_wrong is_utf8 chars
+    encode_utf8 serde_json_on_literals
 an_overhead_without_bytes = refl

@@ -33,6 +33,8 @@ pub const BASE: Config = Config {
     flows: 64,
     pending: 64,
     periodic: 40,
+    open_idle: 0,
+    settle: 0,
 };
 
 /// The configuration, which is lawful.

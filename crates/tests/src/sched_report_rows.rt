@@ -3,15 +3,29 @@
 use crate::base::{BASE, checked};
 use flow_book::FlowSpec;
 use minislots::Stamp;
-use sched_calls::Amount;
+use sched_calls::{Amount, Usage};
 use sched_history::{Call, Scheduler};
 use sched_report::Reporter;
 use std::alloc::AllocGlobal;
 use std::test::Fail;
 
-// Two frames, the second with a data grant of 9 minislots; a request to nobody; a frame after others were left out,
-// with an unsolicited grant of 4 minislots and a poll of 2; and one with two polls, since the unsolicited flow rests.
-const CALLS: [Call; 14] = [
+// Two frames, the first with opportunities of 9 minislots that look like an idle, a poll and an open idle, the second
+// with a data grant of 9; a request to nobody; a frame after others were left out, with an unsolicited grant of 4
+// minislots, a poll of 2, and an opportunity of 5 that looks like a grant to the same flow; and one with two polls,
+// since the unsolicited flow rests.
+const CALLS: [Call; 18] = [
+    Call::Reserve {
+        usage: Usage::Quiet,
+        slots: 3,
+    },
+    Call::Reserve {
+        usage: Usage::Request(9),
+        slots: 2,
+    },
+    Call::Reserve {
+        usage: Usage::Request(16383),
+        slots: 4,
+    },
     Call::Build { now: 760 },
     Call::Admit(
         17,
@@ -52,6 +66,10 @@ const CALLS: [Call; 14] = [
             burst: 0,
         },
     ),
+    Call::Reserve {
+        usage: Usage::DataTo(18),
+        slots: 5,
+    },
     Call::Skip { now: 2000 },
     Call::Build { now: 2000 },
     Call::Rest(18),
@@ -91,10 +109,11 @@ fn the_numbers_of_a_history_are_those_worked_out_by_hand(rt: HostRuntime) -> Res
     let calls = totals.calls;
     assert!(rt; calls.build == 4 && calls.admit == 3 && calls.ask == 2 && calls.skip == 1);
     assert!(rt; calls.replace == 1 && calls.change == 1 && calls.rest == 1 && calls.wake == 1);
-    assert!(rt; calls.heard == 0 && calls.remove == 0 && calls.status == 0);
+    assert!(rt; calls.heard == 0 && calls.remove == 0 && calls.status == 0 && calls.reserve == 4);
     let slots = totals.slots;
-    assert!(rt; slots.request == 16 && slots.data_grants == 9 && slots.idle == 125);
-    assert!(rt; slots.unsolicited == 4 && slots.poll == 6 && slots.opportunity == 0);
+    assert!(rt; slots.request == 16 && slots.data_grants == 9 && slots.idle == 111);
+    assert!(rt; slots.unsolicited == 4 && slots.poll == 6 && slots.opportunity == 14);
+    assert!(rt; slots.open_idle == 0);
     for (place, count) in reporter.refused().iter().enumerate() {
         assert!(rt;
             *count == u64::from(place == 6),
@@ -104,6 +123,10 @@ fn the_numbers_of_a_history_are_those_worked_out_by_hand(rt: HostRuntime) -> Res
     assert!(rt; reporter.lives() == 3, "three flows were admitted");
     let life = reporter.life(0);
     assert!(rt; life.sid == 17 && life.from == 840 && life.to == 2120 && !life.ended);
+    assert!(rt;
+        reporter.life(1).granted == 32,
+        "an opportunity to send is no grant"
+    );
     let sums = life.sums;
     assert!(rt; sums.asks == 1 && sums.asked == 100 && sums.granted == 100);
     let delays = sums.delays;

@@ -29,3 +29,5 @@ field_number fields.Bursts = 20
 field_number fields.Flows = 21
 field_number fields.Pending = 22
 field_number fields.Periodic = 23
+field_number fields.OpenIdle = 24
+field_number fields.Settle = 25

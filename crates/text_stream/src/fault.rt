@@ -81,5 +81,7 @@ pub fn field_number(fault: ConfigFault) -> u8
         ConfigFault::Flows => 21,
         ConfigFault::Pending => 22,
         ConfigFault::Periodic => 23,
+        ConfigFault::OpenIdle => 24,
+        ConfigFault::Settle => 25,
     }
 }

@@ -36,14 +36,20 @@ fn tell_request(
     )
 }
 
+// What an opportunity of so many minislots is used for, by the modems of an SID.
+fn tell_use(words: &mut String, slots: u32, used: &str, sid: u16) -> Result<(), AllocError> {
+    writeln!(words, "reserve {slots} minislots of {used} to SID {sid}")
+}
+
 // An opportunity that was asked for, and whom it is for.
 fn tell_reserve(words: &mut String, usage: Usage, slots: u32) -> Result<(), AllocError> {
     match usage {
         Usage::Initial => writeln!(words, "reserve {slots} minislots of initial maintenance"),
-        Usage::Station(sid) => writeln!(
-            words,
-            "reserve {slots} minislots of station maintenance to SID {sid}"
-        ),
+        Usage::InitialTo(sid) => tell_use(words, slots, "initial maintenance", sid),
+        Usage::Station(sid) => tell_use(words, slots, "station maintenance", sid),
+        Usage::Request(sid) => tell_use(words, slots, "requests", sid),
+        Usage::Quiet => writeln!(words, "reserve {slots} minislots in which nobody sends"),
+        Usage::DataTo(sid) => tell_use(words, slots, "a data grant", sid),
     }
 }
 

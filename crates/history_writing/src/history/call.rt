@@ -4,9 +4,9 @@ ghost use Rattle.std.specs.Prelude.{◌≡◌, ◌++◌, OnOk, codes};
 ghost use Rattle.serde_json.specs.Data.{string, object, no_members, member};
 ghost use Rattle.sched_calls.specs.declared.amount.Amount.TheVariants.{Bytes, Slots};
 ghost use Rattle.sched_calls.specs.declared.spec.FlowSpec.TheVariants.{Unsolicited, Polled, BestEffort};
-ghost use Rattle.sched_calls.specs.declared.opportunity.Usage.TheVariants.{Initial, Station};
 ghost use Rattle.history_writing.specs.Fits.{CallFits};
-ghost use Rattle.history_writing.specs.Json.{count, flow_data, request_data, parameters_data, call_data};
+ghost use Rattle.history_writing.specs.Json.{count, flow_data, request_data, parameters_data, reserve_for, reserve_to};
+ghost use Rattle.history_writing.specs.Json.{call_data};
 ghost use Rattle.history_writing.specs.Tokens.{tokens_of};
 
 use super::count::{put_count, put_name};
@@ -111,34 +111,34 @@ fn put_parameters(out: &mut Writer, name: &str, sid: u16, flow: FlowSpec) -> Res
     out.end_object()
 }
 
-#[tactic(auto, unfolding(crate::specs::Json::call_data))]
-fn put_initial(out: &mut Writer, slots: u32) -> Result<(), AllocError>
+// Writes a Reserve that no SID stands beside, by its usage.
+fn put_reserve_for(out: &mut Writer, usage: &str, slots: u32) -> Result<(), AllocError>
     ensures ok { OnOk result (out.new.tokens
-        ≡ out.old.tokens ++ tokens_of (call_data (Call.Reserve Initial slots))) }
+        ≡ out.old.tokens ++ tokens_of (reserve_for usage.now slots)) }
     ensures before { out.new.before ≡ out.old.before }
 {
     out.begin_object()?;
     put_name(out, "call", "reserve")?;
     put_count(out, "slots", slots as u64)?;
-    put_name(out, "usage", "initial")?;
+    put_name(out, "usage", usage)?;
     out.end_object()
 }
 
-#[tactic(auto, unfolding(crate::specs::Json::call_data))]
-fn put_station(out: &mut Writer, station: u16, slots: u32) -> Result<(), AllocError>
+// Writes a Reserve with its SID, by its usage.
+fn put_reserve_to(out: &mut Writer, usage: &str, modems: u16, slots: u32) -> Result<(), AllocError>
     ensures ok { OnOk result (out.new.tokens
-        ≡ out.old.tokens ++ tokens_of (call_data (Call.Reserve (Station station) slots))) }
+        ≡ out.old.tokens ++ tokens_of (reserve_to usage.now modems slots)) }
     ensures before { out.new.before ≡ out.old.before }
 {
     out.begin_object()?;
     put_name(out, "call", "reserve")?;
-    put_count(out, "sid", station as u64)?;
+    put_count(out, "sid", modems as u64)?;
     put_count(out, "slots", slots as u64)?;
-    put_name(out, "usage", "station")?;
+    put_name(out, "usage", usage)?;
     out.end_object()
 }
 
-// Writes a Reserve: for a modem's opportunity with its SID.
+// Writes a Reserve: with its SID, which each usage has but `initial` and `quiet`.
 #[tactic(auto, unfolding(crate::specs::Json::call_data))]
 fn put_reserve(out: &mut Writer, usage: Usage, slots: u32) -> Result<(), AllocError>
     ensures ok { OnOk result (out.new.tokens
@@ -146,8 +146,12 @@ fn put_reserve(out: &mut Writer, usage: Usage, slots: u32) -> Result<(), AllocEr
     ensures before { out.new.before ≡ out.old.before }
 {
     match usage {
-        Usage::Initial => put_initial(out, slots),
-        Usage::Station(sid) => put_station(out, sid, slots),
+        Usage::Initial => put_reserve_for(out, "initial", slots),
+        Usage::InitialTo(sid) => put_reserve_to(out, "initial_to", sid, slots),
+        Usage::Station(sid) => put_reserve_to(out, "station", sid, slots),
+        Usage::Request(sid) => put_reserve_to(out, "request", sid, slots),
+        Usage::Quiet => put_reserve_for(out, "quiet", slots),
+        Usage::DataTo(sid) => put_reserve_to(out, "data", sid, slots),
     }
 }
 

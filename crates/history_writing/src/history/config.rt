@@ -25,11 +25,11 @@ static PROFILE: [&str; 6] = [
 // The keys of the fields between the bursts and the most flows, in ascending order.
 static FRONT: [&str; 5] = ["calls", "channel", "cycle", "data_end", "data_start"];
 
-// The keys of those between the most flows and the overhead.
+// The keys of those between the most flows and the open idles.
 static MIDDLE: [&str; 3] = ["frame", "grant_cap", "lead"];
 
-// The keys of those behind the most periodic grants.
-static BACK: [&str; 11] = [
+// The keys of those between the most periodic grants and the settling.
+static BACK: [&str; 7] = [
     "phy",
     "poll_slots",
     "quantum",
@@ -37,11 +37,10 @@ static BACK: [&str; 11] = [
     "ranging_start",
     "receivers",
     "req_slots",
-    "short_max",
-    "start",
-    "ticks",
-    "ucd_count",
 ];
+
+// The keys of those behind the settling.
+static LAST: [&str; 4] = ["short_max", "start", "ticks", "ucd_count"];
 
 // Writes a burst descriptor.
 #[tactic(auto, unfolding(crate::specs::HistoryText::profile_data))]
@@ -122,7 +121,8 @@ fn put_front(out: &mut Writer, config: &Config) -> Result<(), AllocError>
         config.grant_cap as u64,
         config.lead as u64,
     ];
-    put_counts(out, &MIDDLE, &numbers)
+    put_counts(out, &MIDDLE, &numbers)?;
+    put_optional(out, "open_idle", config.open_idle as u64, 0)
 }
 
 // Writes the fields behind the overhead.
@@ -130,6 +130,8 @@ fn put_back(out: &mut Writer, config: &Config) -> Result<(), AllocError>
     ensures ok { OnOk result (out.new.tokens ≡ out.old.tokens ++ back_tokens config.now) }
     ensures before { out.new.before ≡ out.old.before }
 {
+    put_optional(out, "pending", config.pending as u64, 64)?;
+    put_optional(out, "periodic", config.periodic as u64, 40)?;
     let numbers = [
         config.phy as u64,
         config.poll_slots as u64,
@@ -138,14 +140,16 @@ fn put_back(out: &mut Writer, config: &Config) -> Result<(), AllocError>
         config.ranging_start as u64,
         config.receivers as u64,
         config.req_slots as u64,
+    ];
+    put_counts(out, &BACK, &numbers)?;
+    put_optional(out, "settle", config.settle as u64, 0)?;
+    let numbers = [
         config.short_max as u64,
         config.start,
         config.ticks as u64,
         config.ucd_count as u64,
     ];
-    put_optional(out, "pending", config.pending as u64, 64)?;
-    put_optional(out, "periodic", config.periodic as u64, 40)?;
-    put_counts(out, &BACK, &numbers)
+    put_counts(out, &LAST, &numbers)
 }
 
 // Writes a configuration in which each minislot carries the same bytes.
@@ -181,7 +185,7 @@ fn put_described(out: &mut Writer, config: &Config, these: &Descriptors) -> Resu
     out.end_object()
 }
 
-/// Writes a configuration: a member for each field, but for a limit that is the one of a missing member.
+/// Writes a configuration: a member for each field, but for one that may be missing and is then the same.
 #[tactic(auto, unfolding(crate::specs::HistoryText::config_data))]
 pub(crate) fn put_config(out: &mut Writer, config: &Config) -> Result<(), AllocError>
     ensures ok { OnOk result

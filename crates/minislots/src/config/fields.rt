@@ -4,7 +4,8 @@ ghost use Rattle.std.specs.Prelude.{◌≡◌, ◌<◌, IsTrue, MatchResult, Som
 ghost use Rattle.minislots.specs.Bursts.{HasBursts};
 ghost use Rattle.minislots.specs.Config.{is_ticks, is_lawful_field, first_wrong, IsLawful};
 ghost use Rattle.minislots.specs.Config.{burst_fields, frame_fields, grant_fields, history_fields};
-ghost use Rattle.minislots.specs.Config.{backoff_fields, channel_fields, flow_fields, NamesFirstWrong};
+ghost use Rattle.minislots.specs.Config.{backoff_fields, channel_fields, flow_fields, idle_fields};
+ghost use Rattle.minislots.specs.Config.{NamesFirstWrong};
 
 use super::{Config, ConfigFault};
 use crate::MAX_ASK;
@@ -34,7 +35,8 @@ impl Config {
         self.check_history()?;
         self.check_backoffs()?;
         self.check_channel()?;
-        self.check_flows()
+        self.check_flows()?;
+        self.check_idles()
     }
 
     // The fields of a burst.
@@ -119,6 +121,14 @@ impl Config {
         require(is_within(1, 8191, self.flows), ConfigFault::Flows)?;
         require(is_within(1, 125, self.pending), ConfigFault::Pending)?;
         require(self.periodic <= 2560, ConfigFault::Periodic)
+    }
+
+    // The fields of idles that are open to requests, and of MAPs in which nobody sends.
+    fn check_idles(&self) -> Result<(), ConfigFault>
+        ensures { NamesFirstWrong self.now idle_fields result }
+    {
+        require(self.open_idle <= 1, ConfigFault::OpenIdle)?;
+        require(self.settle <= 4096, ConfigFault::Settle)
     }
 
     fn has_room_for_requests(&self) -> bool

@@ -69,6 +69,8 @@ impl Config {
             ConfigFault::Flows => (1, 8191),
             ConfigFault::Pending => (1, 125),
             ConfigFault::Periodic => (0, 2560),
+            ConfigFault::OpenIdle => (0, 1),
+            ConfigFault::Settle => (0, 4096),
         };
         Some(range)
     }

@@ -237,4 +237,22 @@ impl Checked {
     {
         self.config.periodic
     }
+
+    /// Whether an idle in which a poll has room is open to the requests of all modems: 1, else 0.
+    pub fn open_idle(&self) -> u8
+        ensures value { result ≡ self.now.open_idle }
+        ensures lawful { IsLawful self.now }
+        ensures most { result ≤ 1 }
+    {
+        self.config.open_idle
+    }
+
+    /// The minislots for which nobody is granted any once a MAP goes by a new UCD.
+    pub fn settle(&self) -> u32
+        ensures value { result ≡ self.now.settle }
+        ensures lawful { IsLawful self.now }
+        ensures most { result ≤ 4096 }
+    {
+        self.config.settle
+    }
 }

@@ -2,7 +2,7 @@
 
 ghost use Rattle.std.specs.Prelude.{◌≡◌, ◌<◌, ◌++◌, length, OnOk};
 ghost use Rattle.report_writing.specs.Metrics.{frames_metrics, reach_metrics, refusal_sample, refusals_metrics};
-ghost use Rattle.report_writing.specs.Metrics.{use_sample, use_samples, use_metrics};
+ghost use Rattle.report_writing.specs.Metrics.{use_sample, open_sample, use_samples, use_metrics};
 
 use crate::metrics::sample::{
     Measure, Whose, push_count_line, push_count_sample, push_heading, push_time_line,
@@ -114,13 +114,31 @@ fn push_use_sample(
     )
 }
 
+// Of open idles, where idles are open.
+fn push_open_sample(
+    words: &mut Vec<u8>,
+    ticks: u32,
+    opens: bool,
+    minislots: u64,
+) -> Result<(), AllocError>
+    ensures { OnOk result (words.new.items
+        ≡ words.old.items ++ open_sample ticks opens minislots) }
+{
+    if !opens {
+        return Ok(());
+    }
+    push_use_sample(words, ticks, b"open", minislots)
+}
+
 // Of all uses.
 #[tactic(auto, unfolding(crate::specs::Metrics::use_samples))]
-fn push_uses(words: &mut Vec<u8>, ticks: u32, slots: &Slots) -> Result<(), AllocError>
-    ensures { OnOk result (words.new.items ≡ words.old.items ++ use_samples ticks slots.now) }
+fn push_uses(words: &mut Vec<u8>, ticks: u32, opens: bool, slots: &Slots) -> Result<(), AllocError>
+    ensures { OnOk result (words.new.items
+        ≡ words.old.items ++ use_samples ticks opens slots.now) }
 {
     push_use_sample(words, ticks, b"data", slots.data_grants)?;
     push_use_sample(words, ticks, b"idle", slots.idle)?;
+    push_open_sample(words, ticks, opens, slots.open_idle)?;
     push_use_sample(words, ticks, b"opportunity", slots.opportunity)?;
     push_use_sample(words, ticks, b"poll", slots.poll)?;
     push_use_sample(words, ticks, b"request", slots.request)?;
@@ -129,8 +147,14 @@ fn push_uses(words: &mut Vec<u8>, ticks: u32, slots: &Slots) -> Result<(), Alloc
 
 // The minislots of all frames by their use.
 #[tactic(auto, unfolding(crate::specs::Metrics::use_metrics))]
-pub(crate) fn push_use(words: &mut Vec<u8>, ticks: u32, slots: &Slots) -> Result<(), AllocError>
-    ensures { OnOk result (words.new.items ≡ words.old.items ++ use_metrics ticks slots.now) }
+pub(crate) fn push_use(
+    words: &mut Vec<u8>,
+    ticks: u32,
+    opens: bool,
+    slots: &Slots,
+) -> Result<(), AllocError>
+    ensures { OnOk result (words.new.items
+        ≡ words.old.items ++ use_metrics ticks opens slots.now) }
 {
     push_heading(
         words,
@@ -139,5 +163,5 @@ pub(crate) fn push_use(words: &mut Vec<u8>, ticks: u32, slots: &Slots) -> Result
         Measure::Seconds,
         b"Time of the minislots of all frames by use.",
     )?;
-    push_uses(words, ticks, slots)
+    push_uses(words, ticks, opens, slots)
 }

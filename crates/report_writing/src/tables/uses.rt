@@ -4,7 +4,7 @@ ghost use Rattle.std.specs.Prelude.{◌≡◌, ◌<◌, ◌^◌, ◌++◌, OnOk}
 ghost use Rattle.sched_report.specs.Uses.{all_slots};
 ghost use Rattle.report_writing.specs.Tables.{reach_text, time_text, no_frames_text, head_text, use_cells, call_cells};
 ghost use Rattle.report_writing.specs.Tables.{use_line, call_line, first_uses, last_uses, last_calls, uses_text};
-ghost use Rattle.report_writing.specs.Tables.{call_line_above_0, flow_calls};
+ghost use Rattle.report_writing.specs.Tables.{reserve_line, call_line_above_0, flow_calls};
 
 use crate::text::{
     microseconds, push_decimal, push_left, push_number, push_percent, push_spaces, push_time,
@@ -121,6 +121,7 @@ fn all_of(slots: &Slots) -> u128
         + u128::from(slots.unsolicited)
         + u128::from(slots.opportunity)
         + u128::from(slots.data_grants)
+        + u128::from(slots.open_idle)
         + u128::from(slots.idle)
 }
 
@@ -177,12 +178,46 @@ fn push_last_uses(
     push_line(words, b"idle", slots.idle, all, b"skip", calls.skip)
 }
 
+// The call beside which open idles are told, where idles are open.
+fn push_reserve_line(
+    words: &mut Vec<u8>,
+    opens: bool,
+    slots: &Slots,
+    all: u128,
+    calls: &Calls,
+) -> Result<(), AllocError>
+    requires { all < 2 ^ 100 }
+    ensures { OnOk result (words.new.items
+        ≡ words.old.items ++ reserve_line opens slots.now all calls.now) }
+{
+    if opens {
+        push_line(
+            words,
+            b"open",
+            slots.open_idle,
+            all,
+            b"reserve",
+            calls.reserve,
+        )
+    } else {
+        push_call_alone(words, b"reserve", calls.reserve)
+    }
+}
+
 // The other calls.
 #[tactic(auto, unfolding(crate::specs::Tables::last_calls))]
-fn push_last_calls(words: &mut Vec<u8>, calls: &Calls) -> Result<(), AllocError>
-    ensures { OnOk result (words.new.items ≡ words.old.items ++ last_calls calls.now) }
+fn push_last_calls(
+    words: &mut Vec<u8>,
+    opens: bool,
+    slots: &Slots,
+    all: u128,
+    calls: &Calls,
+) -> Result<(), AllocError>
+    requires { all < 2 ^ 100 }
+    ensures { OnOk result (words.new.items
+        ≡ words.old.items ++ last_calls opens slots.now all calls.now) }
 {
-    push_call_alone(words, b"reserve", calls.reserve)?;
+    push_reserve_line(words, opens, slots, all, calls)?;
     push_call_alone(words, b"header", calls.header)?;
     push_call_alone(words, b"status", calls.status)
 }
@@ -209,15 +244,21 @@ fn push_flow_calls(words: &mut Vec<u8>, calls: &Calls) -> Result<(), AllocError>
     push_call_above_0(words, b"wake", calls.wake)
 }
 
-// The use of minislots, and beside it the calls.
+// The use of minislots, with open idles or without, and beside it the calls.
 #[tactic(auto, unfolding(crate::specs::Tables::uses_text))]
-pub(crate) fn push_uses(words: &mut Vec<u8>, slots: &Slots, calls: &Calls) -> Result<(), AllocError>
-    ensures { OnOk result (words.new.items ≡ words.old.items ++ uses_text slots.now calls.now) }
+pub(crate) fn push_uses(
+    words: &mut Vec<u8>,
+    opens: bool,
+    slots: &Slots,
+    calls: &Calls,
+) -> Result<(), AllocError>
+    ensures { OnOk result (words.new.items
+        ≡ words.old.items ++ uses_text opens slots.now calls.now) }
 {
     let all = all_of(slots);
     words.extend_from_slice(b"\nuse              minislots       %        calls\n")?;
     push_first_uses(words, slots, all, calls)?;
     push_last_uses(words, slots, all, calls)?;
-    push_last_calls(words, calls)?;
+    push_last_calls(words, opens, slots, all, calls)?;
     push_flow_calls(words, calls)
 }

@@ -12,6 +12,7 @@ use Rattle.sched_history.proofs.facts.SoundLives.{within_asked, within_rate}
 use Rattle.sched_history.proofs.facts.OnTime.{on_time}
 use Rattle.sched_history.proofs.facts.Orderly.{orderly}
 use Rattle.sched_history.proofs.facts.Ranging.{ranging}
+use Rattle.sched_history.proofs.facts.Settled.{settles_in_time}
 
 -- what holds after the entries of a legal history
 pub holds_after : (c : Config) (h : List Entry) → IsLawful c → IsLegal c h → HoldsAfter c h
@@ -23,6 +24,7 @@ holds_after c h lawful legal = record {
   on_time = on_time c lawful h legal;
   heard_after = heard_after c h legal;
   ranging = ranging c h legal;
+  settles = settles_in_time c h legal;
 }
 
 -- so too after each front of them

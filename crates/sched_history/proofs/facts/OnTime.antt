@@ -1,5 +1,5 @@
 -- Every poll and unsolicited grant of a legal history is on time.
-use Rattle.std.proofs.Common.{◌≡◌, ℕ, ◌/◌, ◌%◌, true, false, None, Some, map, filter, List}
+use Rattle.std.proofs.Common.{◌≡◌, ℕ, ◌/◌, ◌%◌, Bool, true, false, if◌then◌else◌, None, Some, map, filter, List}
 use Rattle.std.proofs.Common.{[], ◌∷◌, ◌++◌, refl, sym, ◌∙◌, subst, Contains, arith}
 use Rattle.std.specs.List.{AllByRecursion, zip}
 use Rattle.std.proofs.lemmas.List.Elements.{All-contains, All-from_recursion}
@@ -17,14 +17,12 @@ use Rattle.periodic.proofs.Joined.{all-map}
 use Rattle.periodic.proofs.Resting.{all-due-of}
 use Rattle.map_build.specs.EachAfter.{EachAfter}
 use Rattle.sched_calls.specs.declared.opportunity.Header.{Header}
-use Rattle.sched_calls.specs.declared.opportunity.Usage.{Usage}
-use Rattle.sched_calls.specs.declared.opportunity.Usage.TheVariants.{Initial, Station}
 use Rattle.map_build.specs.declared.purpose.Allocation.{Allocation}
 use Rattle.map_build.specs.declared.purpose.Purpose.{Purpose}
 use Rattle.map_build.specs.declared.purpose.Purpose.TheVariants.{Poll, UnsolicitedGrant, Offer, DataGrant, Idle}
-use Rattle.map_build.specs.Purpose.{broadcast, kind_of, element_of, bytes_in}
+use Rattle.map_build.specs.Purpose.{broadcast, is_open, place_of, element_of, bytes_in}
 use Rattle.map_build.specs.Plan.{Demand, flows_after, IsOfClass, Stands}
-use Rattle.map_build.specs.FrameMap.{request_region, null_element, pending_of, pending, map_of}
+use Rattle.map_build.specs.FrameMap.{null_element, pending_of, pending, map_of}
 use Rattle.sched_calls.specs.declared.call.Call.{Call}
 use Rattle.sched_calls.specs.declared.reply.Reply.{Reply}
 use Rattle.sched_calls.specs.declared.reply.Reply.TheVariants as replies
@@ -32,16 +30,22 @@ use Rattle.sched_calls.specs.declared.reply.Entry.{Entry}
 use Rattle.sched_history.specs.Life.{table_of}
 use Rattle.sched_history.specs.Time.{next_after, ack_after}
 use Rattle.sched_history.specs.Refusal.{bad_sid}
-use Rattle.sched_history.specs.Reserves.{is_opportunity, header_after}
+use Rattle.sched_history.specs.Headers.{header_after}
+use Rattle.sched_history.specs.Reserves.{met_after}
 use Rattle.sched_history.specs.History.{demand_after, IsNextMap, IsStep, IsLegal}
-use Rattle.sched_history.specs.Facts.{IsPeriodic, IsOnTime, KeepsTimes}
+use Rattle.sched_history.specs.Facts.{head_for, IsPeriodic, IsOnTime, KeepsTimes}
 use Rattle.sched_history.proofs.steps.LegalHistories.{IsNextMap-from_step, EachAfter-from_legal}
 use Rattle.sched_history.proofs.steps.LegalBounds.{next_after-aligned}
 use Rattle.map_build.proofs.SameSpots.{all-members}
-use Rattle.sched_history.proofs.lists.Members.{all-flat_map}
+use Rattle.sched_history.proofs.lists.Members.{all-flat_map, Contains-first, Contains-later}
 use Rattle.sched_history.proofs.placements.NominalTimes.{reference_past, interval_divides, place_rest, nominal-start}
 use Rattle.sched_history.proofs.placements.PlacedLives.{WasPlaced, table_placed}
-use Rattle.sched_history.proofs.reserves.Offers.{element_for}
+use Rattle.map_build.specs.declared.met.Met.{Met}
+use Rattle.map_build.specs.Reading.{meets_at}
+use Rattle.map_build.proofs.FlowsAfter.{allocation}
+use Rattle.map_build.proofs.Reading.{met_by_plan, meets_at-member}
+use Rattle.sched_history.proofs.facts.Ranging.{met_after-next}
+use Rattle.sched_history.proofs.settling.Heads.{head-unaddressed}
 
 -- a spot of a placed flow, in a frame that starts there, is on time
 module _ (c : Config) (conf : IsLawful c) (table : List Placed) (start : ℕ) (aligned : start % c.frame ≡ 0)
@@ -94,27 +98,32 @@ module _ (c : Config) (conf : IsLawful c) (table : List Placed) (start : ℕ) (a
       All-contains IsSpotOnTime spots s (All-from_recursion IsSpotOnTime spots all) member e sid offset
 
 -- what is said of an element with its bytes in a MAP that starts there
-abbrev IsTimely : Config → List Placed → ℕ → Element × ℕ → Type 0
-IsTimely c table start e = IsPeriodic c e.0 e.1 → (flow : Placed) × IsOnTime c table start e.0 flow
+abbrev IsTimely : Config → List Met → List Placed → ℕ → Element × ℕ → Type 0
+IsTimely c met table start e = IsPeriodic c met e.0 e.1 → (flow : Placed) × IsOnTime c table start e.0 flow
 
 unaddressed : bad_sid 0 ≡ false → ⊥
 unaddressed good = cc
 
 -- pending grants are none, since they lie behind the frame
-timely-pending : (c : Config) (table : List Placed) (start : ℕ) (flows : List LiveFlow) (bs : List ℕ)
-    → AllByRecursion (IsTimely c table start)
+timely-pending : (c : Config) (met : List Met) (table : List Placed) (start : ℕ) (flows : List LiveFlow) (bs : List ℕ)
+    → AllByRecursion (IsTimely c met table start)
     (zip (map (pending_of c) flows) bs)
-timely-pending c table start [] bs = tt
-timely-pending c table start (f ∷ flows) [] = tt
-timely-pending c table start (f ∷ flows) (b ∷ bs) =
-    ((λ periodic. absurd (omega (arith, periodic.in_frame))), timely-pending c table start flows bs)
+timely-pending c met table start [] bs = tt
+timely-pending c met table start (f ∷ flows) [] = tt
+timely-pending c met table start (f ∷ flows) (b ∷ bs) =
+    ((λ periodic. absurd (omega (arith, periodic.in_frame))), timely-pending c met table start flows bs)
 
-offer-is : (c : Config) (offset slots place : ℕ) (usage : Usage)
-    → is_opportunity (element_for c offset (Offer place usage)) ≡ true
-offer-is c offset slots place Initial = refl
-offer-is c offset slots place (Station sid) = refl
+-- where the opportunities of a plan begin these are met
+abbrev AreMetAt : List Met → List Allocation → Type 0
+AreMetAt met plan = (a : Allocation) (place : ℕ) → Contains plan a → place_of a.purpose ≡ Some place
+    → meets_at met a.offset ≡ true
 
-module _ (c : Config) (d : Demand) (table : List Placed) (same : d.spots ≡ due_in c (d.start / c.frame) table)
+-- an idle is to no flow, open or not
+idle-unaddressed : (opens : Bool) → bad_sid (if opens then broadcast else 0) ≡ true
+idle-unaddressed true = refl
+idle-unaddressed false = refl
+
+module _ (c : Config) (d : Demand) (met : List Met) (table : List Placed) (same : d.spots ≡ due_in c (d.start / c.frame) table)
     (spots_timely : (s : Spot) (e : Element) → Contains (due_in c (d.start / c.frame) table) s → e.sid ≡ s.sid
     → e.offset ≡ s.offset
     → (flow : Placed) × IsOnTime c table d.start e flow) where
@@ -126,57 +135,65 @@ module _ (c : Config) (d : Demand) (table : List Placed) (same : d.spots ≡ due
   -- an allocation's element
   timely-element : (before : List Allocation) (offset slots : ℕ) (purpose : Purpose)
       → IsOfClass c d before offset slots purpose
-      → IsTimely c table d.start (element_for c offset purpose, (kind_of c purpose).bytes)
-  timely-element before offset slots (Poll sid) stands periodic =
+      → ((place : ℕ) → place_of purpose ≡ Some place → meets_at met offset ≡ true)
+      → IsTimely c met table d.start (element_of c (allocation offset slots purpose), bytes_in c (allocation offset slots purpose))
+  timely-element before offset slots (Poll sid) stands met_there periodic =
       timely-spot (record { sid = sid; size = None; offset = offset; slots = slots })
-      (element_for c offset (Poll sid)) stands refl refl
-  timely-element before offset slots (UnsolicitedGrant sid size) stands periodic =
+      (element_of c (allocation offset slots (Poll sid))) stands refl refl
+  timely-element before offset slots (UnsolicitedGrant sid size) stands met_there periodic =
       timely-spot (record { sid = sid; size = Some size; offset = offset; slots = slots })
-      (element_for c offset (UnsolicitedGrant sid size)) stands refl refl
-  timely-element before offset slots (Offer place usage) stands periodic =
-      absurd (let is = offer-is c offset slots place usage in let isnt = periodic.unreserved in cc)
-  timely-element before offset slots (DataGrant sid bytes) stands periodic =
+      (element_of c (allocation offset slots (UnsolicitedGrant sid size))) stands refl refl
+  timely-element before offset slots (Offer place usage) stands met_there periodic =
+      absurd (let is = met_there place refl in let isnt = periodic.unreserved in cc)
+  timely-element before offset slots (DataGrant sid bytes) stands met_there periodic =
       absurd (omega (arith, stands.4.allowed.positive, periodic.unasked))
-  timely-element before offset slots Idle stands periodic = absurd (unaddressed periodic.to_flow)
+  timely-element before offset slots Idle stands met_there periodic =
+      absurd (let good = periodic.to_flow in let bad = idle-unaddressed (is_open c slots) in cc)
 
   -- the elements of a plan, with timely ones behind
   timely-plan : (before plan : List Allocation) (es : List Element) (bs : List ℕ)
-      → EachAfter (Stands c d) before plan
-      → AllByRecursion (IsTimely c table d.start) (zip es bs) → AllByRecursion (IsTimely c table d.start)
+      → EachAfter (Stands c d) before plan → AreMetAt met plan
+      → AllByRecursion (IsTimely c met table d.start) (zip es bs) → AllByRecursion (IsTimely c met table d.start)
       (zip (map (element_of c) plan ++ es) (map (bytes_in c) plan ++ bs))
-  timely-plan before [] es bs each timely = timely
-  timely-plan before (a ∷ plan) es bs each timely = (
-    timely-element before a.offset a.slots a.purpose each.0.purpose,
-    timely-plan (before ++ a ∷ []) plan es bs each.1 timely,
+  timely-plan before [] es bs each are timely = timely
+  timely-plan before (a ∷ plan) es bs each are timely = (
+    timely-element before a.offset a.slots a.purpose each.0.purpose
+        (λ place is. are a place (Contains-first a plan) is),
+    timely-plan (before ++ a ∷ []) plan es bs each.1 (λ b place has is. are b place (Contains-later a plan b has) is)
+        timely,
   )
 
   -- the elements of the MAP of a plan
   timely-map : (header : Header) (ack : ℕ) (plan : List Allocation) → EachAfter (Stands c d) [] plan
-      → KeepsTimes c table (replies.Built (map_of c d header ack plan))
-  timely-map header ack plan each =
+      → AreMetAt met plan → KeepsTimes c table met (replies.Built (map_of c d header ack plan))
+  timely-map header ack plan each are =
       let tail : List Element = pending c (flows_after d.start plan d.flows) in
       let flows : List LiveFlow = flows_after d.start plan d.flows in
       let asking : List LiveFlow = filter (is_shown c.pending flows) flows in (
-        (λ (periodic : IsPeriodic c request_region 0). absurd
-            (let bad : bad_sid broadcast ≡ false = periodic.to_flow in cc)),
-        timely-plan [] plan (null_element c ∷ tail) (0 ∷ map (λ e. 0) tail) each (
+        (λ (periodic : IsPeriodic c met (head_for c d.settles) 0). absurd
+            (let good = periodic.to_flow in let bad = head-unaddressed c d.settles in cc)),
+        timely-plan [] plan (null_element c ∷ tail) (0 ∷ map (λ e. 0) tail) each are (
           (λ periodic. absurd (unaddressed periodic.to_flow)),
-          timely-pending c table d.start asking (map (λ e. 0) tail),
+          timely-pending c met table d.start asking (map (λ e. 0) tail),
         ),
       )
 
 module _ (c : Config) (conf : IsLawful c) where
   timely_by : (h : List Entry) (call : Call) (reply : Reply) → IsLegal c h → IsStep c h call reply
-      → KeepsTimes c (table_of h) reply
+      → KeepsTimes c (table_of h) (met_after c h reply) reply
   timely_by h call (replies.Built m) legal step =
       let next : IsNextMap c h m = IsNextMap-from_step c h call m step in
-      subst (λ m. KeepsTimes c (table_of h) (replies.Built m)) (sym next.2)
-      (timely-map c (demand_after c h) (table_of h) refl (spot_on_time c conf (table_of h) (next_after c h)
+      let met : List Met = met_by_plan next.0 in
+      subst (λ (met : List Met). KeepsTimes c (table_of h) met (replies.Built m))
+      (sym (met_after-next c h m legal next))
+      (subst (λ m. KeepsTimes c (table_of h) met (replies.Built m)) (sym next.2)
+      (timely-map c (demand_after c h) met (table_of h) refl (spot_on_time c conf (table_of h) (next_after c h)
       (next_after-aligned c conf h legal) (table_placed c h legal)) (header_after c h) (ack_after c h)
-      next.0 next.1.each)
+      next.0 next.1.each (λ a place has is. meets_at-member next.0 a place has is)))
   timely_by h call reply legal step = tt
 
   -- every poll and unsolicited grant is on time
-  pub on_time : (h : List Entry) → IsLegal c h → EachAfter (λ before e. KeepsTimes c (table_of before) e.reply) [] h
-  on_time = EachAfter-from_legal c (λ before e. KeepsTimes c (table_of before) e.reply)
+  pub on_time : (h : List Entry) → IsLegal c h
+      → EachAfter (λ before e. KeepsTimes c (table_of before) (met_after c before e.reply) e.reply) [] h
+  on_time = EachAfter-from_legal c (λ before e. KeepsTimes c (table_of before) (met_after c before e.reply) e.reply)
       (λ h e legal step. timely_by h e.call e.reply legal step)

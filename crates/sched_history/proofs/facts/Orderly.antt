@@ -26,8 +26,8 @@ use Rattle.sched_history.proofs.lists.Numbered.{filter_map-below}
 use Rattle.sched_history.proofs.lives.Finding.{sids-range, flow_at, flow_at-sid, placed_at, placed_at-sid, flows_of-channel}
 use Rattle.map_build.proofs.SameSpots.{all-members}
 use Rattle.sched_history.proofs.lists.Members.{all-flat_map}
-use Rattle.sched_history.proofs.plans.Fronts.{HasFront-plan, IsUnasked-plan, length-bytes_of_plan}
-use Rattle.sched_history.proofs.reserves.GoodReserves.{MayWait-legal, HaveStationSids-legal}
+use Rattle.sched_history.proofs.plans.Fronts.{HasFront-plan, length-bytes_of_plan}
+use Rattle.sched_history.proofs.reserves.GoodReserves.{MayWait-legal, HaveElementSids-legal}
 use Rattle.sched_history.proofs.placements.SpotsFew.{due-few-legal}
 
 -- the SIDs of the live flows fit an element
@@ -68,11 +68,10 @@ module _ (c : Config) (conf : IsLawful c) where
             (due-few-legal c conf (next_after c h / c.frame) h legal) (flows_of-channel c h) (MayWait-legal c h legal).few
             next.1;
         counted = length-bytes_of_plan c d next.0;
-        unasked = IsUnasked-plan c d next.0;
         front = HasFront-plan c d next.0
-            (omega (arith, bounds.frame_most)) bounds.requests_positive
+            (omega (arith, bounds.frame_most)) bounds.requests_positive (omega (arith, bounds.requests_fit))
             (flows_of-in_range c h)
-            (due_in-in_range c (next_after c h / c.frame) h) (HaveStationSids-legal c h legal) next.1;
+            (due_in-in_range c (next_after c h / c.frame) h) (HaveElementSids-legal c h legal) next.1;
       })
 
   orderly_more : (h : List Entry) (e : Entry) → IsLegal c h → IsStep c h e.call e.reply

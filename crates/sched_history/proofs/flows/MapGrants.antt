@@ -11,11 +11,12 @@ use Rattle.map_build.specs.declared.purpose.Allocation.{Allocation}
 use Rattle.map_build.specs.declared.purpose.Purpose.{Purpose}
 use Rattle.map_build.specs.declared.purpose.Purpose.TheVariants.{Poll, UnsolicitedGrant, Offer, DataGrant, Idle}
 use Rattle.map_build.specs.EachAfter.{EachAfter}
-use Rattle.map_build.specs.Purpose.{kind_of, grant_to, element_of, bytes_in}
+use Rattle.map_build.specs.Purpose.{grant_to, element_of, bytes_in}
 use Rattle.map_build.specs.Plan.{Demand, grants_to, flows_after, IsOfClass, Stands, IsPlan}
-use Rattle.map_build.specs.FrameMap.{request_region, null_element, pending, map_of}
+use Rattle.map_build.specs.FrameMap.{null_element, pending, map_of}
+use Rattle.map_build.proofs.FlowsAfter.{allocation}
 use Rattle.sched_history.specs.Life.{grant_by, grants_of_map}
-use Rattle.sched_history.proofs.reserves.Offers.{element_for}
+use Rattle.sched_history.specs.Facts.{head_for}
 
 -- a data grant has some bytes
 abbrev pub HasBytes : Purpose → Type 0
@@ -53,17 +54,17 @@ module _ (sid start : ℕ) where
   some_bytes false bytes g some = refl
 
   -- the data grant that an allocation's element is read as
-  grant_by-allocation : (c : Config) (offset : ℕ) (purpose : Purpose) → HasBytes purpose
-      → grant_by sid start (element_for c offset purpose, (kind_of c purpose).bytes)
+  grant_by-allocation : (c : Config) (offset slots : ℕ) (purpose : Purpose) → HasBytes purpose
+      → grant_by sid start (element_of c (allocation offset slots purpose), bytes_in c (allocation offset slots purpose))
       ≡ grant_to start sid purpose offset
-  grant_by-allocation c offset (DataGrant other bytes) has =
+  grant_by-allocation c offset slots (DataGrant other bytes) has =
       some_bytes (other == sid) bytes (record { start = start + offset; bytes = bytes }) has
-  grant_by-allocation c offset (Poll other) has = grant_by-none (element_for c offset (Poll other))
-  grant_by-allocation c offset (UnsolicitedGrant other size) has =
-      grant_by-none (element_for c offset (UnsolicitedGrant other size))
-  grant_by-allocation c offset (Offer place usage) has =
-      grant_by-none (element_for c offset (Offer place usage))
-  grant_by-allocation c offset Idle has = grant_by-none (element_for c offset Idle)
+  grant_by-allocation c offset slots (Poll other) has = grant_by-none (element_of c (allocation offset slots (Poll other)))
+  grant_by-allocation c offset slots (UnsolicitedGrant other size) has =
+      grant_by-none (element_of c (allocation offset slots (UnsolicitedGrant other size)))
+  grant_by-allocation c offset slots (Offer place usage) has =
+      grant_by-none (element_of c (allocation offset slots (Offer place usage)))
+  grant_by-allocation c offset slots Idle has = grant_by-none (element_of c (allocation offset slots Idle))
 
   -- elements with no bytes have no data grants
   zip-none : (es : List Element) → filter_map (grant_by sid start) (zip es (map (λ e. 0) es)) ≡ []
@@ -77,7 +78,7 @@ module _ (sid start : ℕ) where
       ≡ grants_to start sid plan
   zip-plan c [] es bs has none = none
   zip-plan c (a ∷ plan) es bs has none =
-      rw (grant_by-allocation c a.offset a.purpose has.0, zip-plan c plan es bs has.1 none) refl
+      rw (grant_by-allocation c a.offset a.slots a.purpose has.0, zip-plan c plan es bs has.1 none) refl
 
 -- the data grants of the MAP with this plan are those of the plan
 pub grants_of_map-plan : (sid : ℕ) (c : Config) (d : Demand) (header : Header) (ack : ℕ) (plan : List Allocation)
@@ -85,5 +86,5 @@ pub grants_of_map-plan : (sid : ℕ) (c : Config) (d : Demand) (header : Header)
     → grants_of_map sid (map_of c d header ack plan) ≡ grants_to d.start sid plan
 grants_of_map-plan sid c d header ack plan has =
     let behind : List Element = null_element c ∷ pending c (flows_after d.start plan d.flows) in
-    rw (grant_by-none sid d.start request_region)
+    rw (grant_by-none sid d.start (head_for c d.settles))
     (zip-plan sid d.start c plan behind (map (λ e. 0) behind) has (zip-none sid d.start behind))

@@ -1,7 +1,8 @@
 -- The front of the MAP of a plan: its elements ascend strictly, up to the one Null at the end of the frame.
-use Rattle.std.proofs.Common.{◌≡◌, ℕ, ◌<◌, ◌^◌, false, map, filter, length, List, [], ◌∷◌, ◌++◌, refl}
+use Rattle.std.proofs.Common.{◌≡◌, ℕ, ◌<◌, ◌≤◌, ◌^◌, Bool, true, false, map, filter, length}
+use Rattle.std.proofs.Common.{List, [], ◌∷◌, ◌++◌, refl, sym, ap, ◌∙◌, subst}
 use Rattle.std.proofs.Common.{append_assoc, length-append, arith}
-use Rattle.std.specs.List.{AllByRecursion, zip}
+use Rattle.std.specs.List.{AllByRecursion}
 use Rattle.std.proofs.lemmas.List.{append-nil, length-map}
 use Rattle.std.proofs.lemmas.List.Sums.{sum_by_push}
 use Rattle.minislots.specs.declared.config.Config.{Config}
@@ -9,46 +10,27 @@ use Rattle.map_codec.specs.declared.element.Element.{Element}
 use Rattle.flow_book.specs.Flows.{LiveFlow}
 use Rattle.flow_book.specs.Shown.{is_shown}
 use Rattle.map_build.specs.declared.purpose.Allocation.{Allocation}
-use Rattle.map_build.specs.declared.purpose.Purpose.{Purpose}
-use Rattle.map_build.specs.declared.purpose.Purpose.TheVariants.{Poll, UnsolicitedGrant, Offer, DataGrant, Idle}
 use Rattle.map_build.specs.EachAfter.{EachAfter}
-use Rattle.map_build.specs.Opportunities.{HaveStationSids}
-use Rattle.map_build.specs.Purpose.{kind_of, element_of, bytes_in}
+use Rattle.map_build.specs.Opportunities.{HaveElementSids}
+use Rattle.map_build.specs.Purpose.{element_of, bytes_in}
 use Rattle.map_build.specs.Plan.{Demand, end_of, flows_after, Stands, IsPlan}
 use Rattle.map_build.specs.FrameMap.{request_region, null_element, pending_of, pending, elements_of, bytes_of_plan}
+use Rattle.map_build.proofs.Planned.{plan-within}
 use Rattle.map_build.proofs.WellFormed.{HaveSids, HaveSpotSids, elements_of-encodable}
-use Rattle.sched_history.specs.Reserves.{is_opportunity}
-use Rattle.sched_history.specs.Facts.{OffsetsAscend, HasFront, IsUnasked}
-use Rattle.sched_history.proofs.reserves.Offers.{element_for, pending-other, data-no_offer}
+use Rattle.sched_history.specs.Facts.{OffsetsAscend, head_for, HasFront}
+use Rattle.sched_history.proofs.settling.Heads.{is_quiet-head}
 
-behind-other : (c : Config) (flows : List LiveFlow)
-    → AllByRecursion (λ e. is_opportunity e ≡ false) (map (pending_of c) flows)
-behind-other c [] = tt
-behind-other c (f ∷ flows) = (pending-other c f, behind-other c flows)
-
--- an element without bytes is no opportunity with some
-unasked-none : (es : List Element) → AllByRecursion (λ e. IsUnasked e.0 e.1) (zip es (map (λ e. 0) es))
-unasked-none [] = tt
-unasked-none (e ∷ es) = ((λ is. refl), unasked-none es)
-
--- the element of an allocation has its bytes
-unasked-kind : (c : Config) (offset : ℕ) (purpose : Purpose)
-    → IsUnasked (element_for c offset purpose) (kind_of c purpose).bytes
-unasked-kind c offset (DataGrant sid bytes) =
-    λ is. absurd (let isnt = data-no_offer c offset sid bytes in cc)
-unasked-kind c offset (Poll sid) = λ is. refl
-unasked-kind c offset (UnsolicitedGrant sid size) = λ is. refl
-unasked-kind c offset (Offer place usage) = λ is. refl
-unasked-kind c offset Idle = λ is. refl
-
-unasked-plan : (c : Config) (plan : List Allocation) (es : List Element) (bs : List ℕ)
-    → AllByRecursion (λ e. IsUnasked e.0 e.1) (zip es bs)
-    → AllByRecursion (λ e. IsUnasked e.0 e.1) (zip (map (element_of c) plan ++ es) (map (bytes_in c) plan ++ bs))
-unasked-plan c [] es bs rest = rest
-unasked-plan c (a ∷ plan) es bs rest =
-    (unasked-kind c a.offset a.purpose, unasked-plan c plan es bs rest)
+-- pending grants begin where the frame ends
+past-frame : (c : Config) (flows : List LiveFlow)
+    → AllByRecursion (λ e. e.offset ≡ c.frame) (map (pending_of c) flows)
+past-frame c [] = tt
+past-frame c (f ∷ flows) = (refl, past-frame c flows)
 
 module _ (c : Config) (d : Demand) where
+  -- the elements of the MAP of a plan behind its head
+  abbrev rest : List Allocation → List Element
+  rest plan = map (element_of c) plan ++ null_element c ∷ pending c (flows_after d.start plan d.flows)
+
   -- behind an element that begins before it, a plan's elements ascend up to the Null
   ascend-plan : (e : Element) (before plan : List Allocation) → EachAfter (Stands c d) before plan
       → e.offset < end_of c before → end_of c (before ++ plan) ≡ c.frame
@@ -69,30 +51,33 @@ module _ (c : Config) (d : Demand) where
         )) (rw append_assoc whole),
   )
 
+  ascend-head : (settles : Bool) → d.settles ≡ settles → (plan : List Allocation) → 0 < c.req_slots
+      → c.req_slots ≤ c.frame → IsPlan c d plan
+      → OffsetsAscend (head_for c settles ∷ (map (element_of c) plan ++ null_element c ∷ []))
+  ascend-head true is plan some long plans = rw (plans.quiet is) (omega (arith, some, long), tt)
+  ascend-head false is plan some long plans =
+      ascend-plan request_region [] plan plans.each (omega (arith, some)) (plans.whole is)
+
   -- the MAP of a plan has a front
-  pub HasFront-plan : (plan : List Allocation) → c.frame < 2 ^ 14 → 0 < c.req_slots → HaveSids d.flows
-      → HaveSpotSids d.spots → HaveStationSids d.waiting
-      → IsPlan c d plan → HasFront c (elements_of c d.flows d.start plan)
-  HasFront-plan plan below some sids places stations is = record {
+  pub HasFront-plan : (plan : List Allocation) → c.frame < 2 ^ 14 → 0 < c.req_slots → c.req_slots ≤ c.frame
+      → HaveSids d.flows → HaveSpotSids d.spots → HaveElementSids d.waiting
+      → IsPlan c d plan → HasFront c (elements_of c d plan)
+  HasFront-plan plan below some long sids places stations is = record {
     allocations = map (element_of c) plan;
     behind = pending c (flows_after d.start plan d.flows);
-    whole = refl;
-    one_null = (elements_of-encodable c d plan below sids places stations is.each is.whole).one_null;
-    ascend = ascend-plan request_region [] plan is.each (omega (arith, some)) is.whole;
-    ranging = behind-other c (filter (is_shown c.pending (flows_after d.start plan d.flows))
+    whole = ap (λ b. head_for c b ∷ rest plan) (sym (is_quiet-head c d.settles (rest plan)));
+    alone = λ quiet. ap (map (element_of c)) (is.quiet (sym (is_quiet-head c d.settles (rest plan)) ∙ quiet));
+    one_null = (elements_of-encodable c d plan below sids places stations is.each
+        (plan-within c d plan long is)).one_null;
+    ascend = subst (λ b. OffsetsAscend (head_for c b ∷ (map (element_of c) plan ++ null_element c ∷ [])))
+        (sym (is_quiet-head c d.settles (rest plan))) (ascend-head d.settles refl plan some long is);
+    past = past-frame c (filter (is_shown c.pending (flows_after d.start plan d.flows))
         (flows_after d.start plan d.flows));
   }
 
-  -- no opportunity of it has bytes
-  pub IsUnasked-plan : (plan : List Allocation) → AllByRecursion (λ e. IsUnasked e.0 e.1)
-      (zip (elements_of c d.flows d.start plan) (bytes_of_plan c d.flows d.start plan))
-  IsUnasked-plan plan =
-      let behind : List Element = null_element c ∷ pending c (flows_after d.start plan d.flows) in
-      ((λ is. refl), unasked-plan c plan behind (map (λ e. 0) behind) (unasked-none behind))
-
-  -- and a byte count for each element
+  -- it has a byte count for each element
   pub length-bytes_of_plan : (plan : List Allocation)
-      → length (bytes_of_plan c d.flows d.start plan) ≡ length (elements_of c d.flows d.start plan)
+      → length (bytes_of_plan c d plan) ≡ length (elements_of c d plan)
   length-bytes_of_plan plan =
       let tail : List Element = pending c (flows_after d.start plan d.flows) in
       omega (

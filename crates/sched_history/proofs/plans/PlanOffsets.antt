@@ -1,5 +1,5 @@
 -- The data grants of a plan start within its frame.
-use Rattle.std.proofs.Common.{ℕ, ◌+◌, ◌≤◌, ◌<◌, Bool, true, false, ◌==◌, if◌then◌else◌}
+use Rattle.std.proofs.Common.{◌≡◌, refl, ℕ, ◌+◌, ◌≤◌, ◌<◌, Bool, true, false, ◌==◌, if◌then◌else◌}
 use Rattle.std.proofs.Common.{List, [], ◌∷◌, ◌++◌, None, Some, arith, append_assoc}
 use Rattle.std.specs.List.{AllByRecursion, cons_option}
 use Rattle.std.proofs.lemmas.List.Sums.{sum_by-append, sum_by-cons}
@@ -34,7 +34,11 @@ module _ (c : Config) (d : Demand) where
   -- each allocation of a plan begins within the frame
   pub plan-offsets : (plan : List Allocation) → IsPlan c d plan
       → AllByRecursion (λ a. a.offset < c.frame) plan
-  plan-offsets plan is = offsets-before c.frame [] plan is.each (omega (arith, is.whole))
+  plan-offsets plan is = by-settles d.settles refl
+    where
+      by-settles : (settles : Bool) → d.settles ≡ settles → AllByRecursion (λ a. a.offset < c.frame) plan
+      by-settles true quiet = rw (is.quiet quiet) tt
+      by-settles false lasts = offsets-before c.frame [] plan is.each (omega (arith, is.whole lasts))
 
 -- the grant starts before this minislot
 abbrev StartsBefore : ℕ → Grant → Type 0

@@ -1,211 +1,154 @@
--- How many opportunities are alike: asked for, met and waiting.
-use Rattle.std.proofs.Common.{◌≡◌, ℕ, ◌+◌, ◌<◌, ◌≤◌, Bool, true, false, ◌&&◌, ◌==◌, nat_lt, cond}
-use Rattle.std.proofs.Common.{List, [], ◌∷◌, ◌++◌, refl, ap, arith}
-use Rattle.std.specs.List.{AllByRecursion}
+-- How many opportunities of a kind there are: asked for, met and waiting.
+use Rattle.std.proofs.Common.{◌≡◌, ℕ, ◌+◌, ◌<◌, ◌≤◌, Bool, true, false, ◌&&◌, nat_lt, cond, sum_by, count_by}
+use Rattle.std.proofs.Common.{List, [], ◌∷◌, ◌++◌, Option, None, Some, refl, ap, arith}
+use Rattle.std.specs.List.{AllByRecursion, cons_option}
 use Rattle.std.proofs.lemmas.Bool.{cond_both}
 use Rattle.std.proofs.lemmas.Bool.Decides.{nat_tests}
-use Rattle.std.proofs.lemmas.List.Sums.{sum_by-cons, sum_by-append}
+use Rattle.std.proofs.lemmas.List.Sums.{sum_by-cons, sum_by_push}
 use Rattle.sched_calls.specs.declared.opportunity.Opportunity.{Opportunity}
-use Rattle.map_build.specs.Purpose.{sid_for, iuc_for}
 use Rattle.sched_history.specs.declared.scheduler.reserves.Reserve.{Reserve}
-use Rattle.sched_history.specs.Reserves.{last_map, is_same, without_first, unmet_by, older, aged}
-use Rattle.sched_history.specs.Reserves.{asked_for, new_reserve}
-use Rattle.sched_history.specs.Ranging.{count_alike}
-use Rattle.sched_history.proofs.reserves.Places.{all-three}
+use Rattle.sched_history.specs.Reserves.{last_map, older, aged, asked_for, new_reserve}
 
 -- 1 where a test holds
 abbrev pub one : Bool → ℕ
 one b = cond {A = ℕ} b 1 0
 
--- one opportunity more
-pub count_alike-cons : (o p : Opportunity) (os : List Opportunity)
-    → count_alike o (p ∷ os) ≡ one (is_same o p) + count_alike o os
-count_alike-cons o p os = sum_by-cons (λ (q : Opportunity). cond {A = ℕ} (is_same o q) 1 0) p os
+-- how many an entry asks for that are of a kind
+abbrev pub count_offer : (Opportunity → Bool) → Option Opportunity → ℕ
+count_offer kind None = 0
+count_offer kind (Some o) = one (kind o)
 
--- two lists of them
-pub count_alike-append : (o : Opportunity) (os more : List Opportunity)
-    → count_alike o (os ++ more) ≡ count_alike o os + count_alike o more
-count_alike-append o os more = sum_by-append (λ (q : Opportunity). cond {A = ℕ} (is_same o q) 1 0) os more
+module _ (kind : Opportunity → Bool) where
+  -- one opportunity more
+  pub count-cons : (o : Opportunity) (os : List Opportunity) → count_by kind (o ∷ os) ≡ one (kind o) + count_by kind os
+  count-cons o os = sum_by-cons (λ (p : Opportunity). cond {A = ℕ} (kind p) 1 0) o os
 
-equal : (m n : ℕ) → (m == n) ≡ true → m ≡ n
-equal m n is = grind (arith, nat_tests)
+  -- one that there may be in front of others
+  pub count-cons_option : (o : Option Opportunity) (os : List Opportunity)
+      → count_by kind (cons_option o os) ≡ count_offer kind o + count_by kind os
+  count-cons_option None os = omega arith
+  count-cons_option (Some o) os = count-cons o os
 
--- what is like one of two that are alike is like the other
-alike-same : (o p q : Opportunity) → is_same p q ≡ true → is_same o q ≡ is_same o p
-alike-same o p q is =
-    let all = all-three (sid_for p.usage == sid_for q.usage) (iuc_for p.usage == iuc_for q.usage)
-    (p.slots == q.slots) is in
-    let sids : sid_for p.usage ≡ sid_for q.usage = equal _ _ all.0 in
-    let codes : iuc_for p.usage ≡ iuc_for q.usage = equal _ _ all.1 in
-    let lengths : p.slots ≡ q.slots = equal _ _ all.2 in
-    rw (sids, codes, lengths) refl
+  -- whether a Reserve for one of the kind has not lapsed so many MAPs later
+  abbrev is_young : ℕ → Reserve → Bool
+  is_young more r = kind r.opportunity && nat_lt (r.maps + more) last_map
 
--- without the first for an opportunity at most one is gone, where the opportunity is alike
-count-without_first : (o p : Opportunity) (rs : List Reserve)
-    → count_alike o (asked_for rs) ≤ count_alike o (asked_for (without_first p rs)) + one (is_same o p)
-count-without_first o p [] = omega arith
-count-without_first o p (r ∷ rs) =
-    let more = count_alike-cons o r.opportunity (asked_for rs) in
-    cond_both (is_same p r.opportunity) rs (r ∷ without_first p rs)
-    (λ left. count_alike o (asked_for (r ∷ rs)) ≤ count_alike o (asked_for left) + one (is_same o p))
-    (λ is. omega (arith, more, ap one (alike-same o p r.opportunity is)))
-    (λ isnt. omega (
-      arith,
-      more,
-      count_alike-cons o r.opportunity (asked_for (without_first p rs)),
-      count-without_first o p rs,
-    ))
+  -- the same as a number
+  abbrev pub young : ℕ → Reserve → ℕ
+  young more r = one (is_young more r)
 
--- a Reserve that has not lapsed so many MAPs later, and is for an opportunity that is alike
-abbrev is_young : Opportunity → ℕ → Reserve → Bool
-is_young o more r = is_same o r.opportunity && nat_lt (r.maps + more) last_map
+  -- whether a Reserve is for one of the kind, as a number
+  abbrev pub alike : Reserve → ℕ
+  alike r = one (kind r.opportunity)
 
--- how many of them there are
-abbrev pub count_young : Opportunity → ℕ → List Reserve → ℕ
-count_young o more [] = 0
-count_young o more (r ∷ rs) = one (is_young o more r) + count_young o more rs
+  -- as many ask for one of the kind as there are Reserves for it
+  pub count-asked : (rs : List Reserve) → count_by kind (asked_for rs) ≡ sum_by alike rs
+  count-asked [] = refl
+  count-asked (r ∷ rs) = omega (
+    arith,
+    count-cons r.opportunity (asked_for rs),
+    count-asked rs,
+    sum_by-cons alike r rs,
+  )
 
-one-least : (a b : Bool) → one (a && b) ≤ one a
-one-least true true = omega arith
-one-least true false = omega arith
-one-least false b = omega arith
+  one-least : (a b : Bool) → one (a && b) ≤ one a
+  one-least true true = omega arith
+  one-least true false = omega arith
+  one-least false b = omega arith
 
--- without the first for an opportunity at most one of them is gone
-young-without_first : (o p : Opportunity) (more : ℕ) (rs : List Reserve)
-    → count_young o more rs ≤ count_young o more (without_first p rs) + one (is_same o p)
-young-without_first o p more [] = omega arith
-young-without_first o p more (r ∷ rs) =
-    cond_both (is_same p r.opportunity) rs (r ∷ without_first p rs)
-    (λ left. count_young o more (r ∷ rs) ≤ count_young o more left + one (is_same o p))
-    (λ is. omega (
-      arith,
-      ap one (alike-same o p r.opportunity is),
-      one-least (is_same o r.opportunity) (nat_lt (r.maps + more) last_map),
-    ))
-    (λ isnt. omega (arith, young-without_first o p more rs))
+  old-gone : (a : Bool) (maps more : ℕ) → nat_lt (maps + 1) last_map ≡ false
+      → (a && nat_lt (maps + (more + 1)) last_map) ≡ false
+  old-gone true maps more old = grind (arith, nat_tests)
+  old-gone false maps more old = refl
 
--- nor is any new
-fewer-without_first : (o p : Opportunity) (more : ℕ) (rs : List Reserve)
-    → count_young o more (without_first p rs) ≤ count_young o more rs
-fewer-without_first o p more [] = omega arith
-fewer-without_first o p more (r ∷ rs) =
-    cond_both (is_same p r.opportunity) rs (r ∷ without_first p rs)
-    (λ left. count_young o more left ≤ count_young o more (r ∷ rs))
-    (λ is. omega arith) (λ isnt. omega (arith, fewer-without_first o p more rs))
+  young-older : (more : ℕ) (r : Reserve) → young more (older r) ≡ young (more + 1) r
+  young-older more r =
+      let same : r.maps + 1 + more ≡ r.maps + (more + 1) = omega arith in
+      ap (λ maps. one (kind r.opportunity && nat_lt maps last_map)) same
 
--- opportunities take at most as many as are alike
-pub young-unmet_by : (o : Opportunity) (more : ℕ) (os : List Opportunity) (rs : List Reserve)
-    → count_young o more rs ≤ count_young o more (unmet_by os rs) + count_alike o os
-young-unmet_by o more [] rs = omega arith
-young-unmet_by o more (p ∷ os) rs = omega (
-  arith,
-  count_alike-cons o p os,
-  young-without_first o p more rs,
-  young-unmet_by o more os (without_first p rs),
-)
+  -- with a MAP more the same are left as were young a MAP later
+  pub young-aged : (more : ℕ) (rs : List Reserve) → sum_by (young more) (aged rs) ≡ sum_by (young (more + 1)) rs
+  young-aged more [] = refl
+  young-aged more (r ∷ rs) =
+      cond_both (nat_lt (r.maps + 1) last_map) (older r ∷ aged rs) (aged rs)
+      (λ left. sum_by (young more) left ≡ sum_by (young (more + 1)) (r ∷ rs))
+      (λ test. omega (
+        arith,
+        young-older more r,
+        young-aged more rs,
+        sum_by-cons (young more) (older r) (aged rs),
+        sum_by-cons (young (more + 1)) r rs,
+      ))
+      (λ test. omega (
+        arith,
+        ap one (old-gone (kind r.opportunity) r.maps more test),
+        young-aged more rs,
+        sum_by-cons (young (more + 1)) r rs,
+      ))
 
--- and add none
-pub fewer-unmet_by : (o : Opportunity) (more : ℕ) (os : List Opportunity) (rs : List Reserve)
-    → count_young o more (unmet_by os rs) ≤ count_young o more rs
-fewer-unmet_by o more [] rs = omega arith
-fewer-unmet_by o more (p ∷ os) rs =
-    omega (arith, fewer-without_first o p more rs, fewer-unmet_by o more os (without_first p rs))
+  -- one Reserve more
+  pub young-push : (o : Opportunity) (more : ℕ) (rs : List Reserve)
+      → sum_by (young more) (rs ++ new_reserve o ∷ []) ≡ sum_by (young more) rs + young more (new_reserve o)
+  young-push o more rs = sum_by_push (young more) rs (new_reserve o)
 
-young-older : (o : Opportunity) (more : ℕ) (r : Reserve)
-    → is_young o more (older r) ≡ is_young o (more + 1) r
-young-older o more r =
-    let same : r.maps + 1 + more ≡ r.maps + (more + 1) = omega arith in rw same refl
+  new-young : (a : Bool) (more : ℕ) → more < last_map → (a && nat_lt (0 + more) last_map) ≡ a
+  new-young true more few = grind (arith, nat_tests)
+  new-young false more few = refl
 
-old-gone : (o : Opportunity) (more maps : ℕ) (p : Opportunity) → nat_lt (maps + 1) last_map ≡ false
-    → is_young o (more + 1) (record { opportunity = p; maps = maps }) ≡ false
-old-gone o more maps p old = both (is_same o p) (nat_lt (maps + (more + 1)) last_map) (late more maps old)
-  where
-    late : (more maps : ℕ) → nat_lt (maps + 1) last_map ≡ false → nat_lt (maps + (more + 1)) last_map ≡ false
-    late more maps old = grind (arith, nat_tests)
+  -- a new one is young for so many MAPs
+  pub young-new : (o : Opportunity) (more : ℕ) → more < last_map → young more (new_reserve o) ≡ one (kind o)
+  young-new o more few = ap one (new-young (kind o) more few)
 
-    both : (a b : Bool) → b ≡ false → (a && b) ≡ false
-    both true b isnt = isnt
-    both false b isnt = refl
+  -- and is at most one of the kind
+  pub young-least : (o : Opportunity) (more : ℕ) → young more (new_reserve o) ≤ one (kind o)
+  young-least o more = one-least (kind o) (nat_lt (0 + more) last_map)
 
--- with a MAP more the same are left as were young a MAP later
-pub young-aged : (o : Opportunity) (more : ℕ) (rs : List Reserve)
-    → count_young o more (aged rs) ≡ count_young o (more + 1) rs
-young-aged o more [] = refl
-young-aged o more (r ∷ rs) =
-    cond_both (nat_lt (r.maps + 1) last_map) (older r ∷ aged rs) (aged rs)
-    (λ left. count_young o more left ≡ count_young o (more + 1) (r ∷ rs))
-    (λ test. omega (arith, ap one (young-older o more r), young-aged o more rs))
-    (λ test. omega (arith, ap one (old-gone o more r.maps r.opportunity test), young-aged o more rs))
+  -- at most those of the kind are young
+  pub young-most : (more : ℕ) (rs : List Reserve) → sum_by (young more) rs ≤ sum_by alike rs
+  young-most more [] = omega arith
+  young-most more (r ∷ rs) = omega (
+    arith,
+    sum_by-cons (young more) r rs,
+    sum_by-cons alike r rs,
+    one-least (kind r.opportunity) (nat_lt (r.maps + more) last_map),
+    young-most more rs,
+  )
 
--- one Reserve more
-pub young-push : (o p : Opportunity) (more : ℕ) (rs : List Reserve)
-    → count_young o more (rs ++ new_reserve p ∷ []) ≡ count_young o more rs + one (is_young o more (new_reserve p))
-young-push o p more [] = omega arith
-young-push o p more (r ∷ rs) = omega (arith, young-push o p more rs)
+  now-young : (a : Bool) (maps : ℕ) → maps < last_map → (a && nat_lt (maps + 0) last_map) ≡ a
+  now-young true maps few = grind (arith, nat_tests)
+  now-young false maps few = refl
 
-new-young : (a : Bool) (more : ℕ) → more < last_map → (a && nat_lt (0 + more) last_map) ≡ a
-new-young true more few = grind (arith, nat_tests)
-new-young false more few = refl
+  -- of those that have not lapsed all are
+  pub young-now : (rs : List Reserve) → AllByRecursion (λ r. r.maps < last_map) rs
+      → sum_by (young 0) rs ≡ sum_by alike rs
+  young-now [] all = refl
+  young-now (r ∷ rs) all = omega (
+    arith,
+    sum_by-cons (young 0) r rs,
+    sum_by-cons alike r rs,
+    ap one (now-young (kind r.opportunity) r.maps all.0),
+    young-now rs all.1,
+  )
 
--- a new one is young for so many MAPs
-pub young-new : (o p : Opportunity) (more : ℕ) → more < last_map
-    → one (is_young o more (new_reserve p)) ≡ one (is_same o p)
-young-new o p more few = ap one (new-young (is_same o p) more few)
+  none-young : (a : Bool) (maps more : ℕ) → last_map ≤ more → (a && nat_lt (maps + more) last_map) ≡ false
+  none-young true maps more late = grind (arith, nat_tests)
+  none-young false maps more late = refl
 
--- and is at most one that is alike
-pub young-least : (o p : Opportunity) (more : ℕ) → one (is_young o more (new_reserve p)) ≤ one (is_same o p)
-young-least o p more = one-least (is_same o p) (nat_lt (0 + more) last_map)
+  -- and 64 MAPs later none
+  pub young-later : (more : ℕ) (rs : List Reserve) → last_map ≤ more → sum_by (young more) rs ≡ 0
+  young-later more [] late = refl
+  young-later more (r ∷ rs) late = omega (
+    arith,
+    sum_by-cons (young more) r rs,
+    ap one (none-young (kind r.opportunity) r.maps more late),
+    young-later more rs late,
+  )
 
--- at most those that are alike are young
-pub young-most : (o : Opportunity) (more : ℕ) (rs : List Reserve)
-    → count_young o more rs ≤ count_alike o (asked_for rs)
-young-most o more [] = omega arith
-young-most o more (r ∷ rs) = omega (
-  arith,
-  count_alike-cons o r.opportunity (asked_for rs),
-  one-least (is_same o r.opportunity) (nat_lt (r.maps + more) last_map),
-  young-most o more rs,
-)
-
-now-young : (a : Bool) (maps : ℕ) → maps < last_map → (a && nat_lt (maps + 0) last_map) ≡ a
-now-young true maps few = grind (arith, nat_tests)
-now-young false maps few = refl
-
--- of those that have not lapsed all are
-pub young-now : (o : Opportunity) (rs : List Reserve) → AllByRecursion (λ r. r.maps < last_map) rs
-    → count_young o 0 rs ≡ count_alike o (asked_for rs)
-young-now o [] all = refl
-young-now o (r ∷ rs) all = omega (
-  arith,
-  count_alike-cons o r.opportunity (asked_for rs),
-  ap one (now-young (is_same o r.opportunity) r.maps all.0),
-  young-now o rs all.1,
-)
-
-none-young : (a : Bool) (maps more : ℕ) → last_map ≤ more → (a && nat_lt (maps + more) last_map) ≡ false
-none-young true maps more late = grind (arith, nat_tests)
-none-young false maps more late = refl
-
--- and 64 MAPs later none
-pub young-later : (o : Opportunity) (more : ℕ) (rs : List Reserve) → last_map ≤ more → count_young o more rs ≡ 0
-young-later o more [] late = refl
-young-later o more (r ∷ rs) late = omega (
-  arith,
-  ap one (none-young (is_same o r.opportunity) r.maps more late),
-  young-later o more rs late,
-)
-
--- with a MAP more at most as many are alike
-pub alike-aged : (o : Opportunity) (rs : List Reserve)
-    → count_alike o (asked_for (aged rs)) ≤ count_alike o (asked_for rs)
-alike-aged o [] = omega arith
-alike-aged o (r ∷ rs) =
-    cond_both (nat_lt (r.maps + 1) last_map) (older r ∷ aged rs) (aged rs)
-    (λ left. count_alike o (asked_for left) ≤ count_alike o (asked_for (r ∷ rs)))
-    (λ test. omega (
-      arith,
-      count_alike-cons o r.opportunity (asked_for rs),
-      count_alike-cons o r.opportunity (asked_for (aged rs)),
-      alike-aged o rs,
-    ))
-    (λ test. omega (arith, count_alike-cons o r.opportunity (asked_for rs), alike-aged o rs))
+  -- with a MAP more at most as many are of the kind
+  pub alike-aged : (rs : List Reserve) → sum_by alike (aged rs) ≤ sum_by alike rs
+  alike-aged [] = omega arith
+  alike-aged (r ∷ rs) =
+      cond_both (nat_lt (r.maps + 1) last_map) (older r ∷ aged rs) (aged rs)
+      (λ left. sum_by alike left ≤ sum_by alike (r ∷ rs))
+      (λ test. omega (arith, sum_by-cons alike r rs, sum_by-cons alike (older r) (aged rs), alike-aged rs))
+      (λ test. omega (arith, sum_by-cons alike r rs, alike-aged rs))

@@ -65,7 +65,7 @@ grants_first = (
   first_grant,
   IsNextMap-from_lawful base (asked []) (under_ceiling [] ∷ []) [] first_grant
       (flows_of-one base (asked []) 17 (life []) (lit≤ tt) (lit≤ tt) refl (λ sid other. (others sid other).0))
-      (table_of-unplaced_one (asked []) 17 (life []) refl refl (λ sid other. (others sid other).0))
+      (table_of-unplaced_one (asked []) 17 (life []) refl refl (λ sid other. (others sid other).0)) refl
       (a_first_grant_fills_the_room 1600 (lit≤ tt)),
   refl,
 )
@@ -76,7 +76,7 @@ grants_second = (
   second_grant,
   IsNextMap-from_lawful base (asked one) (under_ceiling (grant 844 544 ∷ []) ∷ []) [] second_grant
       (flows_of-one base (asked one) 17 (life one) (lit≤ tt) (lit≤ tt) refl (λ sid other. (others sid other).1))
-      (table_of-unplaced_one (asked one) 17 (life one) refl refl (λ sid other. (others sid other).1))
+      (table_of-unplaced_one (asked one) 17 (life one) refl refl (λ sid other. (others sid other).1)) refl
       a_second_grant_fills_the_room,
   refl,
 )
@@ -87,7 +87,7 @@ grants_third = (
   ceiling_map,
   IsNextMap-from_lawful base (asked two) (limited ∷ []) [] ceiling_map
       (flows_of-one base (asked two) 17 (life two) (lit≤ tt) (lit≤ tt) refl (λ sid other. (others sid other).2))
-      (table_of-unplaced_one (asked two) 17 (life two) refl refl (λ sid other. (others sid other).2))
+      (table_of-unplaced_one (asked two) 17 (life two) refl refl (λ sid other. (others sid other).2)) refl
       a_frame_with_a_grant_at_the_ceiling,
   refl,
 )
@@ -98,7 +98,7 @@ grants_nothing = (
   waiting_map,
   IsNextMap-from_lawful base (asked three) (exhausted ∷ []) [] waiting_map
       (flows_of-one base (asked three) 17 (life three) (lit≤ tt) (lit≤ tt) refl (λ sid other. (others sid other).3))
-      (table_of-unplaced_one (asked three) 17 (life three) refl refl (λ sid other. (others sid other).3))
+      (table_of-unplaced_one (asked three) 17 (life three) refl refl (λ sid other. (others sid other).3)) refl
       a_frame_that_idles_at_the_ceiling,
   refl,
 )

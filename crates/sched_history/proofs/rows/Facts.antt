@@ -1,6 +1,6 @@
 -- What follows for every history: it holds of worked ones, and each of its facts is false of a wrong one.
-use Rattle.std.proofs.Common.{◌≡◌, ℕ, zero, suc, ◌<◌, List, [], ◌∷◌, ◌++◌, None, Some, refl}
-use Rattle.std.proofs.Common.{sym, ap, subst, get_or, Contains, lit<, lit≤, arith}
+use Rattle.std.proofs.Common.{◌≡◌, ℕ, zero, suc, ◌<◌, true, false, List, [], ◌∷◌, ◌++◌, None, Some, IsSomeAnd, refl}
+use Rattle.std.proofs.Common.{sym, ap, ◌∙◌, subst, get_or, slice_get, Contains, lit<, lit≤, arith}
 use Rattle.std.specs.List.{AllByRecursion}
 use Rattle.std.proofs.lemmas.Bool.{ne_eqb}
 use Rattle.map_codec.specs.declared.element.Element.{Element}
@@ -17,6 +17,10 @@ use Rattle.sched_calls.specs.declared.call.Call.TheVariants.{Admit, Ask, Build, 
 use Rattle.sched_calls.specs.declared.reply.Reply.TheVariants.{Admitted, Taken, Built, Reserved}
 use Rattle.sched_calls.specs.declared.reply.Entry.{Entry}
 use Rattle.sched_history.specs.Life.{Life, flow_in_life, flows_of, table_of}
+use Rattle.map_build.specs.declared.met.Met.{Met}
+use Rattle.map_build.specs.Reading.{meets_place, met_in}
+use Rattle.sched_history.specs.Reserves.{reserves_of, waiting_in, met_after}
+use Rattle.sched_history.specs.Ranging.{StandsIn}
 use Rattle.sched_history.specs.Facts.{IsWithinAsked, IsWithinRate, OffsetsAscend, IsOnTime, HoldsAfter}
 use Rattle.sched_history.proofs.lives.LiveFlows.{flows_of-one, table_of-one, table_of-none}
 use Rattle.sched_history.proofs.rows.TwoMaps.{entry, built, admitted, asked, granted, two_maps_of_one_flow}
@@ -125,14 +129,49 @@ a_late_unsolicited_grant_is_refused holds =
 abbrev reserved : Entry
 reserved = entry 0 (Reserve Initial 8) Reserved
 
+-- what a MAP with an idle at 4 meets of it
+abbrev met_in_idle : List Met
+met_in_idle = met_in base (due_in base 20 []) (record { usage = Initial; slots = 8 } ∷ []) first_map.wire.elements
+
+-- no element of that MAP is an opportunity
+passed : (n : ℕ) → slice_get first_map.wire.elements n ≡ Some (element 0x3fff 3 4) → ⊥
+passed zero is = let same : element 0x3fff 1 0 ≡ element 0x3fff 3 4 = cc in
+    absurd (omega (arith, ap (λ (e : Element). e.iuc) same))
+passed (suc zero) is = let same : element 0 6 4 ≡ element 0x3fff 3 4 = cc in
+    absurd (omega (arith, ap (λ (e : Element). e.iuc) same))
+passed (suc (suc zero)) is = let same : element 0 7 40 ≡ element 0x3fff 3 4 = cc in
+    absurd (omega (arith, ap (λ (e : Element). e.iuc) same))
+passed (suc (suc (suc n))) is = absurd (cc)
+
 -- a MAP that passes it over, though its frame is idle
 pub a_reserve_that_is_passed_over_is_refused :
     HoldsAfter base (reserved ∷ entry 1 (Build 760) (Built first_map) ∷ []) → ⊥
 a_reserve_that_is_passed_over_is_refused holds =
     let none : table_of (reserved ∷ []) ≡ [] = table_of-none (reserved ∷ []) (λ sid. refl) in
+    let met : met_after base (reserved ∷ []) (Built first_map) ≡ met_in_idle =
+    ap (λ table. met_in base (due_in base 20 table) (record { usage = Initial; slots = 8 } ∷ [])
+    first_map.wire.elements) none in
+    let stands : AllByRecursion (λ x. IsSomeAnd
+    (slice_get (waiting_in (reserves_of base (reserved ∷ []))) x.place)
+    (StandsIn base first_map.wire.elements first_map.bytes x)) met_in_idle = rw met at holds.ranging.met_stand.1.0 in
+    passed stands.0.index stands.0.element
+
+-- a MAP without what it is to have at 4
+abbrev nothing : FrameMap
+nothing = base_map 800 800 (element 0x3fff 1 0 ∷ element 0 7 40 ∷ []) (0 ∷ 0 ∷ [])
+
+-- is refused too, since it meets nothing though there is a gap
+pub a_gap_that_is_passed_over_is_refused :
+    HoldsAfter base (reserved ∷ entry 1 (Build 760) (Built nothing) ∷ []) → ⊥
+a_gap_that_is_passed_over_is_refused holds =
+    let none : table_of (reserved ∷ []) ≡ [] = table_of-none (reserved ∷ []) (λ sid. refl) in
     let free : AreFree (due_in base 20 (table_of (reserved ∷ []))) 4 8 =
     subst (λ placed. AreFree (due_in base 20 placed) 4 8) (sym none) tt in
-    let met : Contains [] (record { usage = Initial; slots = 8 }) =
-    (holds.ranging.first_met.1.0 (record { usage = Initial; slots = 8 }) refl).1
+    let met : met_after base (reserved ∷ []) (Built nothing) ≡ [] =
+    ap (λ table. met_in base (due_in base 20 table) (record { usage = Initial; slots = 8 } ∷ [])
+    nothing.wire.elements) none in
+    let meets : meets_place (met_after base (reserved ∷ []) (Built nothing)) 0 ≡ true =
+    (holds.ranging.first_met.1.0 refl (record { usage = Initial; slots = 8 }) refl).0.1
     (record { from = 4; behind = lit≤ tt; within = lit≤ tt; free = free }) in
-    absurd (omega (arith, met.1))
+    let fails : false ≡ true = sym (ap (λ met. meets_place met 0) met) ∙ meets in
+    absurd (cc)

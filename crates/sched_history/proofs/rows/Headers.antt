@@ -29,7 +29,7 @@ the_next_map_has_it : IsStep base (built ∷ set ∷ []) (calls.Build 800) (Buil
 the_next_map_has_it = (
   next,
   IsNextMap-from_lawful base (built ∷ set ∷ []) [] [] next (flows_of-none base (built ∷ set ∷ []) (λ sid. refl))
-      (table_of-none (built ∷ set ∷ []) (λ sid. refl)) (IsLawfulMap-idle base header 840 800 (lit< tt)),
+      (table_of-none (built ∷ set ∷ []) (λ sid. refl)) refl (IsLawfulMap-idle base header 840 800 (lit< tt)),
   refl,
 )
 

@@ -75,7 +75,7 @@ grants = (
   first_grant,
   IsNextMap-from_lawful base begun (fresh 600 3000 801 ∷ []) [] first_grant
       (flows_of-one base begun 17 first_life (lit≤ tt) (lit≤ tt) refl others)
-      (table_of-unplaced_one begun 17 first_life refl refl others) (a_first_grant_fills_the_room 600 (lit≤ tt)),
+      (table_of-unplaced_one begun 17 first_life refl refl others) refl (a_first_grant_fills_the_room 600 (lit≤ tt)),
   refl,
 )
 
@@ -95,7 +95,7 @@ grants_again = (
   whole_grant,
   IsNextMap-from_lawful base begun_again (fresh 600 544 841 ∷ []) [] whole_grant
       (flows_of-one base begun_again 17 second_life (lit≤ tt) (lit≤ tt) refl others_again)
-      (table_of-unplaced_one begun_again 17 second_life refl refl others_again) a_first_grant_of_all_that_was_asked,
+      (table_of-unplaced_one begun_again 17 second_life refl refl others_again) refl a_first_grant_of_all_that_was_asked,
   refl,
 )
 

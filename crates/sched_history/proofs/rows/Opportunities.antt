@@ -1,20 +1,27 @@
 -- Worked histories of Reserves: what a MAP meets, what waits, and what has lapsed.
-use Rattle.std.proofs.Common.{◌≡◌, ℕ, List, [], ◌∷◌, ◌++◌, map, replicate, refl, ap, lit<}
+use Rattle.std.proofs.Common.{◌≡◌, ℕ, zero, suc, List, [], ◌∷◌, ◌++◌, map, replicate, refl, ap, lit<}
+use Rattle.std.specs.List.{AllByRecursion}
 use Rattle.minislots.specs.Units.{wire_of}
+use Rattle.map_codec.specs.declared.element.Element.{Element}
+use Rattle.map_codec.specs.declared.element.iuc.TheConstants.{INITIAL_MAINTENANCE, STATION_MAINTENANCE, LONG_DATA_GRANT}
 use Rattle.map_codec.specs.Element.{word_of}
 use Rattle.sched_calls.proofs.Base.{base}
 use Rattle.sched_calls.specs.declared.frame_map.FrameMap.{FrameMap}
-use Rattle.sched_calls.specs.declared.opportunity.Usage.TheVariants.{Initial, Station}
+use Rattle.sched_calls.specs.declared.opportunity.Usage.{Usage}
+use Rattle.sched_calls.specs.declared.opportunity.Usage.TheVariants.{Initial, InitialTo, Station, Request, Quiet, DataTo}
 use Rattle.sched_calls.proofs.BaseMaps.{first_map}
-use Rattle.map_build.proofs.RowsOffers.{initial, station, initial_map, a_frame_with_an_opportunity_for_all}
+use Rattle.map_build.specs.Purpose.{broadcast}
+use Rattle.map_build.specs.FrameMap.{request_region, null_element}
+use Rattle.map_build.proofs.RowsOffers.{initial, initial_map, a_frame_with_an_opportunity_for_all}
 use Rattle.sched_calls.specs.declared.call.Call.TheVariants.{Build, Reserve}
 use Rattle.sched_calls.specs.declared.reply.Refusal.TheVariants.{BadSid, BadLength, ReservesFull}
 use Rattle.sched_calls.specs.declared.reply.Reply.TheVariants.{Built, Reserved, Refused}
 use Rattle.sched_calls.specs.declared.reply.Entry.{Entry}
-use Rattle.sched_history.specs.Reserves.{reserves_of, waiting_in}
+use Rattle.sched_history.specs.Reserves.{new_reserve, reserves_of, waiting_in}
 use Rattle.sched_history.specs.History.{IsStep, IsLegal}
 use Rattle.sched_history.proofs.lives.LiveFlows.{flows_of-none, table_of-none}
-use Rattle.sched_history.proofs.rows.NextMap.{idle_map, IsNextMap-from_lawful, IsNextMap-idle}
+use Rattle.sched_history.proofs.rows.NextMap.{idle_map, IsNextMap-reserved, IsNextMap-unreserved}
+use Rattle.sched_history.proofs.reserves.Idle.{LeavesPlaces, unplaced_after, reserves_after-unplaced}
 use Rattle.sched_history.proofs.rows.TwoMaps.{entry}
 
 -- an opportunity of 8 minislots for all modems is asked for
@@ -29,12 +36,23 @@ with_ack ack m = record m { ack = ack; wire = record m.wire { ack = wire_of ack 
 abbrev meets : FrameMap
 meets = with_ack 800 initial_map
 
+-- a Reserve places no flow, and no MAP does
+reserve-leaves : (usage : Usage) (slots : ℕ) → LeavesPlaces (entry 0 (Reserve usage slots) Reserved)
+reserve-leaves usage slots = record { turns = λ sid. refl; changes = λ sid. refl; rests = λ sid. refl }
+
+build-leaves : (n now : ℕ) (m : FrameMap) → LeavesPlaces (entry n (Build now) (Built m))
+build-leaves n now m = record { turns = λ sid. refl; changes = λ sid. refl; rests = λ sid. refl }
+
+-- so the Reserves of such entries are read in frames in which nothing has its place
+read : (h : List Entry) → AllByRecursion LeavesPlaces h → reserves_of base h ≡ unplaced_after base [] h
+read h all = reserves_after-unplaced base (λ h. refl) [] h [] (table_of-none [] (λ sid. refl)) all
+
 -- a MAP that has it may follow
 the_opportunity_is_met : IsStep base (asked ∷ []) (Build 760) (Built meets)
 the_opportunity_is_met = let lawful = a_frame_with_an_opportunity_for_all in (
   meets,
-  IsNextMap-from_lawful base (asked ∷ []) [] [] meets (flows_of-none base (asked ∷ []) (λ sid. refl))
-      (table_of-none (asked ∷ []) (λ sid. refl))
+  IsNextMap-reserved base (asked ∷ []) [] [] (new_reserve (initial 8) ∷ []) meets
+      (flows_of-none base (asked ∷ []) (λ sid. refl)) (table_of-none (asked ∷ []) (λ sid. refl)) refl
       (lawful.0, lawful.1, ap (with_ack 800) lawful.2),
   refl,
 )
@@ -49,7 +67,9 @@ it_is_met_once : IsStep base (asked ∷ entry 1 (Build 760) (Built meets) ∷ []
     (Built (idle_map base 840 800))
 it_is_met_once = (
   idle_map base 840 800,
-  IsNextMap-idle base (asked ∷ entry 1 (Build 760) (Built meets) ∷ []) (lit< tt) (λ sid. refl) refl refl,
+  IsNextMap-unreserved base (asked ∷ entry 1 (Build 760) (Built meets) ∷ []) (lit< tt) (λ sid. refl)
+      (read (asked ∷ entry 1 (Build 760) (Built meets) ∷ []) (reserve-leaves Initial 8, (build-leaves 1 760 meets, tt)))
+      refl refl,
   refl,
 )
 
@@ -74,6 +94,34 @@ an_opportunity_of_nothing_is_refused = refl
 pub an_opportunity_to_a_bad_sid_is_refused : IsStep base [] (Reserve (Station 8192) 0) (Refused BadSid)
 an_opportunity_to_a_bad_sid_is_refused = refl
 
+-- requests may come from a modem, from those with some priorities and from all modems
+pub a_request_of_some_priorities_is_reserved : IsStep base [] (Reserve (Request 15873) 2) Reserved
+a_request_of_some_priorities_is_reserved = refl
+
+pub a_request_of_all_priorities_is_reserved : IsStep base [] (Reserve (Request 16127) 2) Reserved
+a_request_of_all_priorities_is_reserved = refl
+
+pub a_request_of_all_modems_is_reserved : IsStep base [] (Reserve (Request 16383) 2) Reserved
+a_request_of_all_modems_is_reserved = refl
+
+-- and from no other SID
+pub a_request_to_a_bad_sid_is_refused : (IsStep base [] (Reserve (Request 0) 2) (Refused BadSid))
+    × (IsStep base [] (Reserve (Request 8192) 2) (Refused BadSid))
+    × (IsStep base [] (Reserve (Request 15872) 2) (Refused BadSid))
+    × (IsStep base [] (Reserve (Request 16128) 2) (Refused BadSid))
+    × (IsStep base [] (Reserve (Request 16382) 2) (Refused BadSid))
+a_request_to_a_bad_sid_is_refused = (refl, refl, refl, refl, refl)
+
+-- ranging and data are for one modem
+pub data_to_all_modems_are_refused : (IsStep base [] (Reserve (DataTo 16383) 2) (Refused BadSid))
+    × (IsStep base [] (Reserve (DataTo 15873) 2) (Refused BadSid))
+    × (IsStep base [] (Reserve (InitialTo 16383) 8) (Refused BadSid))
+data_to_all_modems_are_refused = (refl, refl, refl)
+
+-- nobody sends in a quiet window, so it has no SID that could be wrong
+pub a_quiet_window_is_reserved : IsStep base [] (Reserve Quiet 36) Reserved
+a_quiet_window_is_reserved = refl
+
 -- so many Reserves of one minislot
 abbrev many : ℕ → List Entry
 many n = replicate n (entry 0 (Reserve Initial 1) Reserved)
@@ -87,39 +135,71 @@ pub a_sixty_fifth_is_refused : IsStep base (many 64) (Reserve Initial 1) (Refuse
 a_sixty_fifth_is_refused = refl
 
 -- sixteen of them wait for the next MAP
-pub sixteen_wait_for_a_map : waiting_in (reserves_of (many 64)) ≡ replicate 16 (initial 1)
+pub sixteen_wait_for_a_map : waiting_in (reserves_of base (many 64)) ≡ replicate 16 (initial 1)
 sixteen_wait_for_a_map = refl
 
--- a Reserve that a MAP does not meet is older
-pub a_map_ages_a_reserve : reserves_of (asked ∷ entry 1 (Build 760) (Built first_map) ∷ [])
-    ≡ record { opportunity = initial 8; maps = 1 } ∷ []
-a_map_ages_a_reserve = refl
+-- the MAP of the first frame with other elements
+abbrev with_elements : List Element → FrameMap
+with_elements elements = record first_map { wire = record first_map.wire { elements = elements } }
 
--- so many MAPs without opportunities
+-- a MAP in which nothing stands behind the request region
+abbrev empty : FrameMap
+empty = with_elements (request_region ∷ null_element base ∷ [])
+
+-- so many of them
 abbrev maps : ℕ → List Entry
-maps n = replicate n (entry 0 (Build 760) (Built first_map))
+maps n = replicate n (entry 0 (Build 760) (Built empty))
+
+maps-leave : (n : ℕ) → AllByRecursion LeavesPlaces (maps n)
+maps-leave zero = tt
+maps-leave (suc n) = (build-leaves 0 760 empty, maps-leave n)
+
+-- a Reserve that a MAP does not meet is older
+pub a_map_ages_a_reserve : reserves_of base (asked ∷ maps 1) ≡ record { opportunity = initial 8; maps = 1 } ∷ []
+a_map_ages_a_reserve = read (asked ∷ maps 1) (reserve-leaves Initial 8, maps-leave 1)
 
 -- sixty-three MAPs that did not meet it leave it
-pub sixty_three_maps_leave_a_reserve : reserves_of (asked ∷ maps 63)
+pub sixty_three_maps_leave_a_reserve : reserves_of base (asked ∷ maps 63)
     ≡ record { opportunity = initial 8; maps = 63 } ∷ []
-sixty_three_maps_leave_a_reserve = refl
+sixty_three_maps_leave_a_reserve = read (asked ∷ maps 63) (reserve-leaves Initial 8, maps-leave 63)
 
 -- after sixty-four it has lapsed
-pub a_reserve_lapses_after_sixty_four_maps : reserves_of (asked ∷ maps 64) ≡ []
-a_reserve_lapses_after_sixty_four_maps = refl
+pub a_reserve_lapses_after_sixty_four_maps : reserves_of base (asked ∷ maps 64) ≡ []
+a_reserve_lapses_after_sixty_four_maps = read (asked ∷ maps 64) (reserve-leaves Initial 8, maps-leave 64)
+
+-- an element of this SID and code at this offset
+abbrev at : ℕ → ℕ → ℕ → Element
+at offset sid iuc = record { sid = sid; iuc = iuc; offset = offset }
+
+-- a MAP with one element behind the request region
+abbrev one : FrameMap
+one = with_elements (request_region ∷ at 4 broadcast INITIAL_MAINTENANCE ∷ null_element base ∷ [])
 
 -- of two that are alike a MAP with one opportunity meets the first
-pub the_first_of_two_alike_is_met : reserves_of (asked ∷ maps 1 ++ asked ∷ entry 1 (Build 760) (Built meets) ∷ [])
+pub the_first_of_two_alike_is_met : reserves_of base (asked ∷ maps 1 ++ asked ∷ entry 1 (Build 760) (Built one) ∷ [])
     ≡ record { opportunity = initial 8; maps = 1 } ∷ []
-the_first_of_two_alike_is_met = refl
+the_first_of_two_alike_is_met = read (asked ∷ maps 1 ++ asked ∷ entry 1 (Build 760) (Built one) ∷ [])
+    (reserve-leaves Initial 8, (build-leaves 0 760 empty, (reserve-leaves Initial 8, (build-leaves 1 760 one, tt))))
 
--- an opportunity of a modem does not meet a Reserve for all
-pub an_opportunity_for_another_meets_nothing : reserves_of
-    (entry 0 (Reserve (Station 9) 8) Reserved ∷ entry 1 (Build 760) (Built meets) ∷ [])
-    ≡ record { opportunity = station 9 8; maps = 1 } ∷ []
-an_opportunity_for_another_meets_nothing = refl
+-- an opportunity stands where it is to, whatever the element there says
+pub a_word_is_not_read : reserves_of base
+    (entry 0 (Reserve (Station 9) 8) Reserved ∷ entry 1 (Build 760) (Built meets) ∷ []) ≡ []
+a_word_is_not_read = read (entry 0 (Reserve (Station 9) 8) Reserved ∷ entry 1 (Build 760) (Built meets) ∷ [])
+    (reserve-leaves (Station 9) 8, (build-leaves 1 760 meets, tt))
+
+-- a MAP with an element of 30 minislots, and one of the 6 that are left
+abbrev two : FrameMap
+two = with_elements (request_region ∷ at 4 9 STATION_MAINTENANCE ∷ at 34 0 LONG_DATA_GRANT ∷ null_element base ∷ [])
+
+-- what is longer than the room waits
+pub what_has_no_room_waits : reserves_of base
+    (entry 0 (Reserve (Station 9) 30) Reserved ∷ asked ∷ entry 1 (Build 760) (Built two) ∷ [])
+    ≡ record { opportunity = initial 8; maps = 1 } ∷ []
+what_has_no_room_waits =
+    read (entry 0 (Reserve (Station 9) 30) Reserved ∷ asked ∷ entry 1 (Build 760) (Built two) ∷ [])
+    (reserve-leaves (Station 9) 30, (reserve-leaves Initial 8, (build-leaves 1 760 two, tt)))
 
 -- a refused build loses none
-pub a_refused_build_loses_no_reserve : reserves_of (asked ∷ entry 1 (Build 0) (Refused BadLength) ∷ [])
+pub a_refused_build_loses_no_reserve : reserves_of base (asked ∷ entry 1 (Build 0) (Refused BadLength) ∷ [])
     ≡ record { opportunity = initial 8; maps = 0 } ∷ []
 a_refused_build_loses_no_reserve = refl

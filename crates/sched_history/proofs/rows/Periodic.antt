@@ -76,7 +76,7 @@ the_map_of_two_unsolicited_flows_may_follow = (
       (flows_of-two base (first ∷ second ∷ []) 5 6 (first_life (second ∷ [])) second_life (lit≤ tt) (lit< tt)
       (lit≤ tt) refl refl others_of_both)
       (table_of-two (first ∷ second ∷ []) 5 6 (first_life (second ∷ [])) second_life first_placed second_placed
-      (lit≤ tt) (lit< tt) (lit≤ tt) refl refl refl refl others_of_both)
+      (lit≤ tt) (lit< tt) (lit≤ tt) refl refl refl refl others_of_both) refl
       a_frame_with_unsolicited_grants,
   refl,
 )
@@ -133,7 +133,7 @@ the_map_of_a_flow_with_two_grants_may_follow = (
   double_map,
   IsNextMap-from_lawful base (double ∷ []) double_voices (double_placed ∷ []) double_map
       (flows_of-one base (double ∷ []) 5 double_life (lit≤ tt) (lit≤ tt) refl others_of_double)
-      (table_of-one (double ∷ []) 5 double_life double_placed (lit≤ tt) (lit≤ tt) refl refl others_of_double)
+      (table_of-one (double ∷ []) 5 double_life double_placed (lit≤ tt) (lit≤ tt) refl refl others_of_double) refl
       a_frame_with_two_grants_of_a_flow,
   refl,
 )

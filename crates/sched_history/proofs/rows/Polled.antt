@@ -59,7 +59,7 @@ polls = (
   IsNextMap-from_lawful base (admission ∷ []) (polled ∷ []) (polled_placed ∷ []) poll_map
       (flows_of-one base (admission ∷ []) 9 (life []) (lit≤ tt) (lit≤ tt) refl (λ sid other. (others sid other).0))
       (table_of-one (admission ∷ []) 9 (life []) polled_placed (lit≤ tt) (lit≤ tt) refl refl
-      (λ sid other. (others sid other).0))
+      (λ sid other. (others sid other).0)) refl
       a_frame_with_a_poll,
   refl,
 )
@@ -78,8 +78,9 @@ idles = (
       },
       tt,
     );
-    whole = refl;
-    due = tt;
+    whole = λ sends. refl;
+    due = λ sends. tt;
+    quiet = λ settles. absurd (cc);
   },
   refl,
 )
@@ -92,7 +93,7 @@ does_not_poll = (
       (flows_of-one base (admission ∷ with_poll ∷ []) 9 (life (with_poll ∷ [])) (lit≤ tt) (lit≤ tt) refl
       (λ sid other. (others sid other).1))
       (table_of-one (admission ∷ with_poll ∷ []) 9 (life (with_poll ∷ [])) polled_placed (lit≤ tt) (lit≤ tt) refl refl
-      (λ sid other. (others sid other).1))
+      (λ sid other. (others sid other).1)) refl
       idles,
   refl,
 )

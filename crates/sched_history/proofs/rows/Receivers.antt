@@ -48,20 +48,20 @@ three_maps_move_three_frames = refl
 pub maps_carry_the_acknowledge_time : IsLegal pair
     (both_heard ++ entry 4 (Build 840) (Built (idle_map pair 880 840)) ∷ [])
 maps_carry_the_acknowledge_time = (
-  (idle_map pair 800 800, IsNextMap-idle pair [] (lit< tt) (λ sid. refl) refl refl, refl),
+  (idle_map pair 800 800, IsNextMap-idle pair [] (lit< tt) (λ sid. refl) refl refl refl, refl),
   (
     refl,
     (
       (
         idle_map pair 840 800,
         IsNextMap-idle pair (entry 0 (Build 760) (Built (idle_map pair 800 800)) ∷ entry 1 (Heard 0 840) Noted ∷ [])
-            (lit< tt) (λ sid. refl) refl refl,
+            (lit< tt) (λ sid. refl) refl refl refl,
         refl,
       ),
       (
         refl,
         (
-          (idle_map pair 880 840, IsNextMap-idle pair both_heard (lit< tt) (λ sid. refl) refl refl, refl),
+          (idle_map pair 880 840, IsNextMap-idle pair both_heard (lit< tt) (λ sid. refl) refl refl refl, refl),
           tt,
         ),
       ),

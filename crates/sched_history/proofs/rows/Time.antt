@@ -21,7 +21,7 @@ a_late_build_is_refused = refl
 -- at 800 it is not
 pub a_build_just_in_time_is_accepted : IsStep base (built ∷ []) (Build 800) (Built (idle_map base 840 800))
 a_build_just_in_time_is_accepted =
-    (idle_map base 840 800, IsNextMap-idle base (built ∷ []) (lit< tt) (λ sid. refl) refl refl, refl)
+    (idle_map base 840 800, IsNextMap-idle base (built ∷ []) (lit< tt) (λ sid. refl) refl refl refl, refl)
 
 -- the late build and the skip
 abbrev late : Entry
@@ -52,8 +52,11 @@ a_skip_of_no_late_frame_is_refused = refl
 -- and the next MAP is that of the frame after it
 pub the_frame_after_a_skip_is_described : IsStep base (built ∷ late ∷ skipped ∷ []) (Build 801)
     (Built (idle_map base 880 800))
-the_frame_after_a_skip_is_described =
-    (idle_map base 880 800, IsNextMap-idle base (built ∷ late ∷ skipped ∷ []) (lit< tt) (λ sid. refl) refl refl, refl)
+the_frame_after_a_skip_is_described = (
+  idle_map base 880 800,
+  IsNextMap-idle base (built ∷ late ∷ skipped ∷ []) (lit< tt) (λ sid. refl) refl refl refl,
+  refl,
+)
 
 -- the channel whose first frame starts at 5000
 abbrev later : Config
@@ -66,7 +69,7 @@ a_build_too_early_is_refused = refl
 -- at 944 it ends 4096 ahead
 pub a_build_at_the_earliest_minislot_is_accepted : IsStep later [] (Build 944) (Built (idle_map later 5000 5000))
 a_build_at_the_earliest_minislot_is_accepted =
-    (idle_map later 5000 5000, IsNextMap-idle later [] (lit< tt) (λ sid. refl) refl refl, refl)
+    (idle_map later 5000 5000, IsNextMap-idle later [] (lit< tt) (λ sid. refl) refl refl refl, refl)
 
 -- a clock above 2^60 is refused before its distance is looked at
 pub a_clock_above_the_greatest_is_refused : IsStep later [] (Build 1152921504606846977) (Refused BadClock)
@@ -87,12 +90,12 @@ after_the_wrap = idle_map wrapping 4294967320 4294967280
 pub two_maps_across_the_wrap : IsLegal wrapping
     (entry 0 (Build 4294967240) (Built before_the_wrap) ∷ entry 1 (Build 4294967280) (Built after_the_wrap) ∷ [])
 two_maps_across_the_wrap = (
-  (before_the_wrap, IsNextMap-idle wrapping [] (lit< tt) (λ sid. refl) refl refl, refl),
+  (before_the_wrap, IsNextMap-idle wrapping [] (lit< tt) (λ sid. refl) refl refl refl, refl),
   (
     (
       after_the_wrap,
       IsNextMap-idle wrapping (entry 0 (Build 4294967240) (Built before_the_wrap) ∷ []) (lit< tt)
-          (λ sid. refl) refl refl,
+          (λ sid. refl) refl refl refl,
       refl,
     ),
     tt,

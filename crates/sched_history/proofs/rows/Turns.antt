@@ -73,7 +73,7 @@ serves_lower = (
       (flows_of-two base (asked []) 20 21 (lower_life []) (higher_life []) (lit≤ tt) (lit< tt) (lit≤ tt) refl refl
       (λ sid l h. (third sid l h).0))
       (table_of-unplaced_two (asked []) 20 21 (lower_life []) (higher_life []) refl refl refl refl
-      (λ sid l h. (third sid l h).0))
+      (λ sid l h. (third sid l h).0)) refl
       two_flows_take_turns,
   refl,
 )
@@ -87,7 +87,7 @@ serves_other = (
       (lit< tt)
       (lit≤ tt) refl refl (λ sid l h. (third sid l h).1))
       (table_of-unplaced_two (asked (turn ∷ [])) 20 21 (lower_life (turn ∷ []))
-      (higher_life (turn ∷ [])) refl refl refl refl (λ sid l h. (third sid l h).1))
+      (higher_life (turn ∷ [])) refl refl refl refl (λ sid l h. (third sid l h).1)) refl
       the_flow_without_a_grant_is_served,
   refl,
 )
@@ -101,7 +101,7 @@ serves_again = (
       (flows_of-two base (asked (turn ∷ other_turn ∷ [])) 20 21 (lower_life (turn ∷ other_turn ∷ []))
       (higher_life (turn ∷ other_turn ∷ [])) (lit≤ tt) (lit< tt) (lit≤ tt) refl refl (λ sid l h. (third sid l h).2))
       (table_of-unplaced_two (asked (turn ∷ other_turn ∷ [])) 20 21 (lower_life (turn ∷ other_turn ∷ []))
-      (higher_life (turn ∷ other_turn ∷ [])) refl refl refl refl (λ sid l h. (third sid l h).2))
+      (higher_life (turn ∷ other_turn ∷ [])) refl refl refl refl (λ sid l h. (third sid l h).2)) refl
       the_flow_with_the_earlier_grant_is_served,
   refl,
 )

@@ -42,7 +42,7 @@ pub the_first_map_may_follow_nothing : IsStep base [] (Build 760) (Built first_m
 the_first_map_may_follow_nothing = (
   first_map,
   IsNextMap-from_lawful base [] [] [] first_map (flows_of-none base [] (λ sid. refl))
-      (table_of-none [] (λ sid. refl)) a_frame_without_flows,
+      (table_of-none [] (λ sid. refl)) refl a_frame_without_flows,
   refl,
 )
 
@@ -69,7 +69,7 @@ the_second_map_may_follow = (
   second_map,
   IsNextMap-from_lawful base (built ∷ admitted ∷ asked ∷ []) (small ∷ []) [] second_map
       (flows_of-one base (built ∷ admitted ∷ asked ∷ []) 17 life (lit≤ tt) (lit≤ tt) refl others)
-      (table_of-unplaced_one (built ∷ admitted ∷ asked ∷ []) 17 life refl refl others)
+      (table_of-unplaced_one (built ∷ admitted ∷ asked ∷ []) 17 life refl refl others) refl
       a_frame_with_one_grant,
   refl,
 )

@@ -32,7 +32,7 @@ the_first_map_is_one m (other, next, e) =
     let same : m ≡ other = cc in
     same ∙ one_map base (demand_at [] [] [] 800) the_base_has_bursts BeginApart-nil (header_of base) 800 other first_map
     (lawful-from_IsNextMap base [] [] [] other (flows_of-none base [] (λ sid. refl)) (table_of-none []
-    (λ sid. refl)) next)
+    (λ sid. refl)) refl next)
     a_frame_without_flows
 
 -- bytes of an idle may not stand in a history

@@ -1,12 +1,12 @@
 -- The MAP of the next frame, from what a scheduler keeps.
 use Rattle.std.proofs.Common.{◌≡◌, ℕ, zero, suc, ◌+◌, ◌≤◌, ◌<◌, List, [], ◌∷◌, map}
-use Rattle.std.proofs.Common.{◌++◌, take, length, get_or, refl, sym, ap, ◌∙◌, subst, arith}
+use Rattle.std.proofs.Common.{Bool, if◌then◌else◌, ◌++◌, take, length, get_or, refl, sym, ap, ◌∙◌, subst, arith}
 use Rattle.minislots.specs.declared.stamp.Stamp.{Stamp}
 use Rattle.minislots.proofs.Bounds.{bounds_of}
 use Rattle.periodic.specs.Placement.{count_from}
 use Rattle.map_build.specs.declared.frame.PlannedFrame.{PlannedFrame}
 use Rattle.sched_calls.specs.declared.frame_map.FrameMap.{FrameMap}
-use Rattle.map_build.specs.Plan.{flows_after}
+use Rattle.map_build.specs.Plan.{Demand, flows_after, IsPlan}
 use Rattle.map_build.specs.FrameMap.{elements_of, IsLawfulMap, IsLawfulFrame}
 use Rattle.map_build.specs.Spots.{AreOfChannel, ArePeriodicOf}
 use Rattle.sched_history.specs.declared.scheduler.state.State.{State}
@@ -15,15 +15,18 @@ use Rattle.sched_calls.specs.declared.reply.Reply.TheVariants.{Built}
 use Rattle.sched_calls.specs.declared.reply.Entry.{Entry}
 use Rattle.sched_history.specs.Life.{flows_of}
 use Rattle.sched_history.specs.Time.{least, progress_of, ack_after}
-use Rattle.sched_history.specs.Reserves.{offers_of, unmet_by, aged, reserves_of, waiting_in, unmarked, header_after}
+use Rattle.sched_history.specs.Headers.{header_after}
+use Rattle.sched_history.specs.Settling.{settles_after}
+use Rattle.sched_history.specs.Reserves.{aged, unmarked, left_behind, reserves_behind, reserves_of}
 use Rattle.sched_history.specs.History.{demand_after, IsNextMap, IsLegal}
-use Rattle.sched_history.specs.State.{next_demand, IsBounded, IsStateAfter}
+use Rattle.sched_history.specs.State.{settles_next, next_demand, IsBounded, IsStateAfter}
 use Rattle.sched_history.proofs.placements.PeriodicFlows.{ArePeriodicOf-legal}
 use Rattle.sched_history.proofs.lives.Finding.{flows_of-channel}
 use Rattle.sched_history.proofs.flows.MapGrants.{plan-HasBytes}
 use Rattle.sched_history.proofs.flows.BuildCall.{flows_of-build_plan}
+use Rattle.sched_history.proofs.settling.SettlesNext.{settles_next-after}
 use Rattle.sched_history.proofs.reserves.ReservesAfter.{reserves_of-built}
-use Rattle.sched_history.proofs.reserves.MetPlaces.{unmet_by-marks}
+use Rattle.sched_history.proofs.reserves.MetPlaces.{left_behind-marks}
 
 -- the first numbers of a list are the values of f
 take-counted : (f : ℕ → ℕ) (first n : ℕ) (xs : List ℕ) → n ≤ length xs
@@ -47,26 +50,29 @@ module _ (s : State) (h : List Entry) (is_after : IsStateAfter s h) where
       (λ receiver below. is_after.progress receiver below ∙ ap (λ n. progress_of s.config n h) (omega arith)))
 
   -- what the next frame has to serve, by what is kept, is what it has after the history
-  pub next_demand-after : next_demand s ≡ demand_after s.config h
-  next_demand-after = rw (is_after.flows, is_after.next, is_after.placed, is_after.reserves) refl
+  pub next_demand-after : IsLegal s.config h → next_demand s ≡ demand_after s.config h
+  next_demand-after legal =
+      let same : record (next_demand s) { settles = settles_after s.config h } ≡ demand_after s.config h =
+      rw (is_after.flows, is_after.next, is_after.placed, is_after.reserves) refl in
+      ap (λ b. record (next_demand s) { settles = b }) (settles_next-after s h is_after legal) ∙ same
 
   -- a lawful MAP of what is kept is that of the next frame
-  pub IsNextMap-after : (m : FrameMap)
+  pub IsNextMap-after : IsLegal s.config h → (m : FrameMap)
       → IsLawfulMap s.config (next_demand s) s.header (least (take s.config.receivers s.progress)) m
       → IsNextMap s.config h m
-  IsNextMap-after m lawful =
+  IsNextMap-after legal m lawful =
       subst (λ ack. IsLawfulMap s.config (demand_after s.config h) (header_after s.config h) ack m) ack-after
       (subst (λ header. IsLawfulMap s.config (demand_after s.config h) header
       (least (take s.config.receivers s.progress)) m) is_after.header
       (subst (λ d. IsLawfulMap s.config d s.header (least (take s.config.receivers s.progress)) m)
-      next_demand-after lawful))
+      (next_demand-after legal) lawful))
 
   -- and the other way round
-  pub IsLawfulMap-after : (m : FrameMap) → IsNextMap s.config h m
+  pub IsLawfulMap-after : IsLegal s.config h → (m : FrameMap) → IsNextMap s.config h m
       → IsLawfulMap s.config (next_demand s) s.header (least (take s.config.receivers s.progress)) m
-  IsLawfulMap-after m next =
+  IsLawfulMap-after legal m next =
       subst (λ d. IsLawfulMap s.config d s.header (least (take s.config.receivers s.progress)) m)
-      (sym next_demand-after)
+      (sym (next_demand-after legal))
       (subst (λ header. IsLawfulMap s.config (demand_after s.config h) header
       (least (take s.config.receivers s.progress)) m) (sym is_after.header)
       (subst (λ ack. IsLawfulMap s.config (demand_after s.config h) (header_after s.config h) ack m)
@@ -83,17 +89,27 @@ module _ (s : State) (h : List Entry) (is_after : IsStateAfter s h) where
         ∙ sym (flows_of-build_plan stamp h now p.map s.config (next_demand s) s.header
         (least (take s.config.receivers s.progress)) frame.plan has frame.map)
 
-    -- and the Reserves without those that it meets, a MAP older, those after it
-    pub reserves_of-planned : aged (unmarked p.met (reserves_of h))
-        ≡ reserves_of (h ++ record { stamp = stamp; call = Build now; reply = Built p.map } ∷ [])
-    reserves_of-planned =
-        let waits : waiting_in s.reserves ≡ waiting_in (reserves_of h) = ap waiting_in is_after.reserves in
-        let met = unmet_by-marks s.config (next_demand s) (reserves_of h) waits frame.plan p.met frame.is_plan
-        frame.met in
-        let elements : p.map.wire.elements ≡ elements_of s.config s.book.flows s.next frame.plan =
-        ap (λ (m : FrameMap). m.wire.elements) frame.map in
-        ap aged (sym met ∙ ap (λ es. unmet_by (offers_of es) (reserves_of h)) (sym elements))
-        ∙ sym (reserves_of-built h (record { stamp = stamp; call = Build now; reply = Built p.map }) p.map refl)
+    -- and the Reserves that it leaves, by its marks, those after it
+    pub reserves_of-planned : IsLegal s.config h
+        → left_behind (settles_after s.config h) p.met (reserves_of s.config h)
+        ≡ reserves_of s.config (h ++ record { stamp = stamp; call = Build now; reply = Built p.map } ∷ [])
+    reserves_of-planned legal =
+        let plan : IsPlan s.config (demand_after s.config h) frame.plan =
+        subst (λ d. IsPlan s.config d frame.plan) (next_demand-after legal) frame.is_plan in
+        let elements : p.map.wire.elements ≡ elements_of s.config (demand_after s.config h) frame.plan =
+        ap (λ (m : FrameMap). m.wire.elements) frame.map
+        ∙ ap (λ (d : Demand). elements_of s.config d frame.plan) (next_demand-after legal) in
+        left_behind-marks s.config h legal frame.plan plan p.met frame.met
+        ∙ ap (λ es. reserves_behind s.config h es (reserves_of s.config h)) (sym elements)
+        ∙ sym (reserves_of-built s.config h (record { stamp = stamp; call = Build now; reply = Built p.map }) p.map refl)
+
+  -- the Reserves that are kept after a MAP are those that it leaves
+  pub reserves-behind : IsLegal s.config h → (met : List Bool)
+      → (if settles_next s then s.reserves else aged (unmarked met s.reserves))
+      ≡ left_behind (settles_after s.config h) met (reserves_of s.config h)
+  reserves-behind legal met =
+      ap (λ b. if b then s.reserves else aged (unmarked met s.reserves)) (settles_next-after s h is_after legal)
+      ∙ ap (left_behind (settles_after s.config h) met) is_after.reserves
 
   module _ (bounded : IsBounded s.config s.book.flows s.next (length h)) where
     -- the flows are those that a channel may have

@@ -15,6 +15,7 @@ use Rattle.sched_history.proofs.flows.ChangeCall.{flows_of-change, table_of-chan
 use Rattle.sched_history.proofs.time.TimeAfter.{next_after-same, progress_of-same}
 use Rattle.sched_history.proofs.reserves.ReservesAfter.{reserves_of-same}
 use Rattle.sched_history.proofs.reserves.HeaderAfter.{header_after-same}
+use Rattle.sched_history.proofs.settling.SettlingAfter.{settling_after-same}
 
 module _ (s : State) (h : List Entry) (is_after : IsStateAfter s h) (stamp : Stamp) (sid : ℕ) (spec : FlowSpec)
     (life : Life) (lives : life_of sid h ≡ Some life) where
@@ -38,8 +39,9 @@ module _ (s : State) (h : List Entry) (is_after : IsStateAfter s h) (stamp : Sta
         next = is_after.next ∙ sym (next_after-same s.config h e refl refl);
         places = is_after.places;
         progress = λ other below. is_after.progress other below ∙ sym (progress_of-same s.config other h e refl);
-        reserves = is_after.reserves ∙ sym (reserves_of-same h e refl refl);
+        reserves = is_after.reserves ∙ sym (reserves_of-same s.config h e refl refl);
         header = is_after.header ∙ sym (header_after-same s.config h e refl);
+        settling = is_after.settling ∙ sym (settling_after-same s.config h e refl);
       }
 
   -- and without one
@@ -61,6 +63,7 @@ module _ (s : State) (h : List Entry) (is_after : IsStateAfter s h) (stamp : Sta
         next = is_after.next ∙ sym (next_after-same s.config h e refl refl);
         places = is_after.places;
         progress = λ other below. is_after.progress other below ∙ sym (progress_of-same s.config other h e refl);
-        reserves = is_after.reserves ∙ sym (reserves_of-same h e refl refl);
+        reserves = is_after.reserves ∙ sym (reserves_of-same s.config h e refl refl);
         header = is_after.header ∙ sym (header_after-same s.config h e refl);
+        settling = is_after.settling ∙ sym (settling_after-same s.config h e refl);
       }

@@ -13,7 +13,7 @@ use Rattle.sched_calls.specs.declared.spec.FlowSpec.TheVariants.{Unsolicited, Po
 use Rattle.sched_calls.specs.FlowSpec.{is_periodic, is_kind_of, has_place_of, takes_requests, grants_of}
 use Rattle.sched_calls.specs.FlowSpec.{first_fault}
 use Rattle.flow_book.specs.Flows.{LiveFlow, flow_of}
-use Rattle.flow_book.specs.Sids.{AscendBy}
+use Rattle.sched_calls.specs.Sids.{AscendBy}
 use Rattle.flow_book.specs.Book.{Ascend, IsLive, without as without_flow}
 use Rattle.sched_calls.specs.declared.placement.Placement.{Placement}
 use Rattle.periodic.specs.Placement.{Placed, IsPlacement, NoPlacement, IsToldFrom}

@@ -17,6 +17,7 @@ use Rattle.sched_calls.specs.declared.amount.Amount.{Amount}
 use Rattle.sched_calls.specs.Amount.{requested}
 use Rattle.sched_history.specs.declared.scheduler.state.State.{State}
 use Rattle.sched_history.specs.declared.scheduler.reserves.Reserve.{Reserve as Waiting}
+use Rattle.sched_history.specs.declared.scheduler.settling.Settling.{Settling}
 use Rattle.sched_calls.specs.declared.call.Call.{Call}
 use Rattle.sched_calls.specs.declared.call.Call.TheVariants as calls
 use Rattle.sched_calls.specs.declared.reply.Reply.{Reply}
@@ -24,6 +25,7 @@ use Rattle.sched_calls.specs.declared.reply.Reply.TheVariants as replies
 use Rattle.sched_calls.specs.declared.reply.Entry.{Entry}
 use Rattle.sched_history.specs.Life.{life_of, flows_of}
 use Rattle.sched_history.specs.Reserves.{new_reserve, reserves_of}
+use Rattle.sched_history.specs.Settling.{settling_with}
 use Rattle.sched_history.specs.State.{IsStateAfter, IsQuiet}
 use Rattle.sched_history.proofs.lives.FlowsAfter.{flows_of-quiet, table_of-stays}
 use Rattle.sched_history.proofs.flows.FlowCalls.{flows_of-ask, table_of-ask, flows_of-remove, table_of-remove}
@@ -36,6 +38,7 @@ use Rattle.sched_history.proofs.time.TimeAfter.{next_after-same, next_after-buil
 use Rattle.sched_history.proofs.time.TimeAfter.{progress_of-same, progress_of-noted}
 use Rattle.sched_history.proofs.reserves.ReservesAfter.{reserves_of-push, reserves_of-same}
 use Rattle.sched_history.proofs.reserves.HeaderAfter.{header_after-same, header_after-set}
+use Rattle.sched_history.proofs.settling.SettlingAfter.{settling_after-same, settling_after-built}
 
 -- a note is of its receiver alone
 noted : (receiver upto : ℕ) → (if receiver == receiver then Some upto else None) ≡ Some upto
@@ -72,8 +75,9 @@ module _ (s : State) (h : List Entry) (is_after : IsStateAfter s h) (stamp : Sta
         progress =
             λ receiver below. is_after.progress receiver below
             ∙ sym (progress_of-same s.config receiver h e (quiet.notes receiver));
-        reserves = is_after.reserves ∙ sym (reserves_of-same h e quiet.reserves quiet.builds);
+        reserves = is_after.reserves ∙ sym (reserves_of-same s.config h e quiet.reserves quiet.builds);
         header = is_after.header ∙ sym (header_after-same s.config h e quiet.headers);
+        settling = is_after.settling ∙ sym (settling_after-same s.config h e quiet.builds);
       }
 
   -- after a request
@@ -93,8 +97,9 @@ module _ (s : State) (h : List Entry) (is_after : IsStateAfter s h) (stamp : Sta
         next = is_after.next ∙ sym (next_after-same s.config h e refl refl);
         places = is_after.places;
         progress = λ other below. is_after.progress other below ∙ sym (progress_of-same s.config other h e refl);
-        reserves = is_after.reserves ∙ sym (reserves_of-same h e refl refl);
+        reserves = is_after.reserves ∙ sym (reserves_of-same s.config h e refl refl);
         header = is_after.header ∙ sym (header_after-same s.config h e refl);
+        settling = is_after.settling ∙ sym (settling_after-same s.config h e refl);
       }
 
   -- after a request that replaces others
@@ -115,8 +120,9 @@ module _ (s : State) (h : List Entry) (is_after : IsStateAfter s h) (stamp : Sta
         next = is_after.next ∙ sym (next_after-same s.config h e refl refl);
         places = is_after.places;
         progress = λ other below. is_after.progress other below ∙ sym (progress_of-same s.config other h e refl);
-        reserves = is_after.reserves ∙ sym (reserves_of-same h e refl refl);
+        reserves = is_after.reserves ∙ sym (reserves_of-same s.config h e refl refl);
         header = is_after.header ∙ sym (header_after-same s.config h e refl);
+        settling = is_after.settling ∙ sym (settling_after-same s.config h e refl);
       }
 
   -- after a rest
@@ -135,8 +141,9 @@ module _ (s : State) (h : List Entry) (is_after : IsStateAfter s h) (stamp : Sta
         next = is_after.next ∙ sym (next_after-same s.config h e refl refl);
         places = is_after.places;
         progress = λ other below. is_after.progress other below ∙ sym (progress_of-same s.config other h e refl);
-        reserves = is_after.reserves ∙ sym (reserves_of-same h e refl refl);
+        reserves = is_after.reserves ∙ sym (reserves_of-same s.config h e refl refl);
         header = is_after.header ∙ sym (header_after-same s.config h e refl);
+        settling = is_after.settling ∙ sym (settling_after-same s.config h e refl);
       }
 
   -- after a wake
@@ -155,8 +162,9 @@ module _ (s : State) (h : List Entry) (is_after : IsStateAfter s h) (stamp : Sta
         next = is_after.next ∙ sym (next_after-same s.config h e refl refl);
         places = is_after.places;
         progress = λ other below. is_after.progress other below ∙ sym (progress_of-same s.config other h e refl);
-        reserves = is_after.reserves ∙ sym (reserves_of-same h e refl refl);
+        reserves = is_after.reserves ∙ sym (reserves_of-same s.config h e refl refl);
         header = is_after.header ∙ sym (header_after-same s.config h e refl);
+        settling = is_after.settling ∙ sym (settling_after-same s.config h e refl);
       }
 
   -- after a removal
@@ -177,8 +185,9 @@ module _ (s : State) (h : List Entry) (is_after : IsStateAfter s h) (stamp : Sta
         next = is_after.next ∙ sym (next_after-same s.config h e refl refl);
         places = is_after.places;
         progress = λ other below. is_after.progress other below ∙ sym (progress_of-same s.config other h e refl);
-        reserves = is_after.reserves ∙ sym (reserves_of-same h e refl refl);
+        reserves = is_after.reserves ∙ sym (reserves_of-same s.config h e refl refl);
         header = is_after.header ∙ sym (header_after-same s.config h e refl);
+        settling = is_after.settling ∙ sym (settling_after-same s.config h e refl);
       } in
       rw same after
 
@@ -200,8 +209,9 @@ module _ (s : State) (h : List Entry) (is_after : IsStateAfter s h) (stamp : Sta
         next = is_after.next ∙ sym (next_after-same s.config h e refl refl);
         places = is_after.places;
         progress = λ other below. is_after.progress other below ∙ sym (progress_of-same s.config other h e refl);
-        reserves = is_after.reserves ∙ sym (reserves_of-same h e refl refl);
+        reserves = is_after.reserves ∙ sym (reserves_of-same s.config h e refl refl);
         header = is_after.header ∙ sym (header_after-same s.config h e refl);
+        settling = is_after.settling ∙ sym (settling_after-same s.config h e refl);
       }
 
   -- after an admission with a place
@@ -227,8 +237,9 @@ module _ (s : State) (h : List Entry) (is_after : IsStateAfter s h) (stamp : Sta
         next = is_after.next ∙ sym (next_after-same s.config h e refl refl);
         places = is_after.places;
         progress = λ other below. is_after.progress other below ∙ sym (progress_of-same s.config other h e refl);
-        reserves = is_after.reserves ∙ sym (reserves_of-same h e refl refl);
+        reserves = is_after.reserves ∙ sym (reserves_of-same s.config h e refl refl);
         header = is_after.header ∙ sym (header_after-same s.config h e refl);
+        settling = is_after.settling ∙ sym (settling_after-same s.config h e refl);
       } in
       rw same after
 
@@ -253,8 +264,9 @@ module _ (s : State) (h : List Entry) (is_after : IsStateAfter s h) (stamp : Sta
               ∙ is_after.progress other below
               ∙ sym (progress_of-same s.config other h e (not_noted receiver other upto differ))
         ];
-        reserves = is_after.reserves ∙ sym (reserves_of-same h e refl refl);
+        reserves = is_after.reserves ∙ sym (reserves_of-same s.config h e refl refl);
         header = is_after.header ∙ sym (header_after-same s.config h e refl);
+        settling = is_after.settling ∙ sym (settling_after-same s.config h e refl);
       }
 
   -- after a skip
@@ -271,19 +283,22 @@ module _ (s : State) (h : List Entry) (is_after : IsStateAfter s h) (stamp : Sta
         next = sym (next_after-skipped s.config h e next refl);
         places = is_after.places;
         progress = λ other below. is_after.progress other below ∙ sym (progress_of-same s.config other h e refl);
-        reserves = is_after.reserves ∙ sym (reserves_of-same h e refl refl);
+        reserves = is_after.reserves ∙ sym (reserves_of-same s.config h e refl refl);
         header = is_after.header ∙ sym (header_after-same s.config h e refl);
+        settling = is_after.settling ∙ sym (settling_after-same s.config h e refl);
       }
 
-  -- after a MAP, where the flows and the Reserves are those after it
-  pub IsStateAfter-built : (now : ℕ) (m : FrameMap) (book : BookView) (reserves : List Waiting)
+  -- after a MAP of the next frame, where the flows and the Reserves are those after it
+  pub IsStateAfter-built : (now : ℕ) (m : FrameMap) (book : BookView) (reserves : List Waiting) (settling : Settling)
       → book.config ≡ s.config
       → book.flows ≡ flows_of s.config
       (h ++ record { stamp = stamp; call = calls.Build now; reply = replies.Built m } ∷ [])
-      → reserves ≡ reserves_of (h ++ record { stamp = stamp; call = calls.Build now; reply = replies.Built m } ∷ [])
-      → IsStateAfter (record s { book = book; next = s.next + s.config.frame; reserves = reserves })
+      → reserves ≡ reserves_of s.config (h ++ record { stamp = stamp; call = calls.Build now; reply = replies.Built m } ∷ [])
+      → m.start ≡ s.next → settling ≡ settling_with m.wire.ucd_count s.next s.settling
+      → IsStateAfter
+      (record s { book = book; next = s.next + s.config.frame; reserves = reserves; settling = settling })
       (h ++ record { stamp = stamp; call = calls.Build now; reply = replies.Built m } ∷ [])
-  IsStateAfter-built now m book reserves book_config flows left =
+  IsStateAfter-built now m book reserves settling book_config flows left starts follows =
       let e : Entry = entry (calls.Build now) (replies.Built m) in
       record {
         lawful = is_after.lawful;
@@ -296,6 +311,9 @@ module _ (s : State) (h : List Entry) (is_after : IsStateAfter s h) (stamp : Sta
         progress = λ other below. is_after.progress other below ∙ sym (progress_of-same s.config other h e refl);
         reserves = left;
         header = is_after.header ∙ sym (header_after-same s.config h e refl);
+        settling = follows ∙ ap (λ n. settling_with m.wire.ucd_count n s.settling) (sym starts)
+            ∙ ap (settling_with m.wire.ucd_count m.start) is_after.settling
+            ∙ sym (settling_after-built s.config h e m refl);
       }
 
   -- after a Reserve
@@ -314,8 +332,9 @@ module _ (s : State) (h : List Entry) (is_after : IsStateAfter s h) (stamp : Sta
         places = is_after.places;
         progress = λ other below. is_after.progress other below ∙ sym (progress_of-same s.config other h e refl);
         reserves = ap (λ rs. rs ++ new_reserve (record { usage = usage; slots = slots }) ∷ []) is_after.reserves
-            ∙ sym (reserves_of-push h e);
+            ∙ sym (reserves_of-push s.config h e);
         header = is_after.header ∙ sym (header_after-same s.config h e refl);
+        settling = is_after.settling ∙ sym (settling_after-same s.config h e refl);
       }
 
   -- after a header
@@ -332,6 +351,7 @@ module _ (s : State) (h : List Entry) (is_after : IsStateAfter s h) (stamp : Sta
         next = is_after.next ∙ sym (next_after-same s.config h e refl refl);
         places = is_after.places;
         progress = λ other below. is_after.progress other below ∙ sym (progress_of-same s.config other h e refl);
-        reserves = is_after.reserves ∙ sym (reserves_of-same h e refl refl);
+        reserves = is_after.reserves ∙ sym (reserves_of-same s.config h e refl refl);
         header = sym (header_after-set s.config h e header refl);
+        settling = is_after.settling ∙ sym (settling_after-same s.config h e refl);
       }

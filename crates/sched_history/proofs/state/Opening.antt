@@ -1,5 +1,5 @@
 -- The state before any call.
-use Rattle.std.proofs.Common.{◌≡◌, ◌≤◌, [], refl, sym, ◌∙◌, arith, replicate}
+use Rattle.std.proofs.Common.{◌≡◌, ◌≤◌, [], None, refl, sym, ◌∙◌, arith, replicate}
 use Rattle.std.proofs.lemmas.List.{get_or-replicate}
 use Rattle.std.specs.Prelude.{vec_capacity}
 use Rattle.minislots.specs.declared.config.Config.{Config}
@@ -29,8 +29,9 @@ next-open c = omega arith
 pub IsStateAfter-open : (s : State) → IsLawful s.config → s.book.config ≡ s.config → s.book.flows ≡ []
     → s.table.config ≡ s.config
     → s.table.placed ≡ [] → s.next ≡ s.config.start
-    → s.progress ≡ replicate 16 s.config.start → s.reserves ≡ [] → s.header ≡ header_of s.config → IsStateAfter s []
-IsStateAfter-open s lawful book_config flows table_config placed next progress reserves header =
+    → s.progress ≡ replicate 16 s.config.start → s.reserves ≡ [] → s.header ≡ header_of s.config
+    → s.settling ≡ record { count = s.config.ucd_count; change = None } → IsStateAfter s []
+IsStateAfter-open s lawful book_config flows table_config placed next progress reserves header settling =
     let bounds = bounds_of s.config lawful in
     record {
       lawful = lawful;
@@ -45,6 +46,7 @@ IsStateAfter-open s lawful book_config flows table_config placed next progress r
           (get_or-replicate 16 receiver s.config.start 0 (omega (arith, bounds.receivers_most)));
       reserves = reserves;
       header = header;
+      settling = settling;
     }
 
 -- A scheduler without entries is sound, where its fields stand for the empty history

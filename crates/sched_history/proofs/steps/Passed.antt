@@ -289,25 +289,25 @@ pub record MayReserve (c : Config) (h : List Entry) (usage : Usage) (slots : ℕ
   pub good : is_to_bad_sid usage ≡ false
   pub some_slots : 0 < slots
   pub within : slots ≤ c.frame - c.req_slots
-  pub room : length (reserves_of h) < MAX_RESERVES
+  pub room : length (reserves_of c h) < MAX_RESERVES
 
 -- a Reserve that no test refuses passed
 pub passed-reserve : (c : Config) (h : List Entry) (usage : Usage) (slots : ℕ)
     → refusal_of c h (Reserve usage slots) ≡ None → MayReserve c h usage slots
 passed-reserve c h usage slots e =
     let full : Option Refusal =
-    option_or (refused_if (nat_le MAX_RESERVES (length (reserves_of h))) ReservesFull) None in
+    option_or (refused_if (nat_le MAX_RESERVES (length (reserves_of c h))) ReservesFull) None in
     let long : Option Refusal =
     option_or (refused_if (slots == 0 || nat_lt (c.frame - c.req_slots) slots) BadLength) full in
     let past_sid = passed (is_to_bad_sid usage) BadSid long e in
     let past_length = passed (slots == 0 || nat_lt (c.frame - c.req_slots) slots) BadLength full past_sid.1 in
-    let past_room = passed (nat_le MAX_RESERVES (length (reserves_of h))) ReservesFull None past_length.1 in
+    let past_room = passed (nat_le MAX_RESERVES (length (reserves_of c h))) ReservesFull None past_length.1 in
     let lengths = neither (slots == 0) (nat_lt (c.frame - c.req_slots) slots) past_length.0 in
     record {
       good = past_sid.0;
       some_slots = some slots lengths.0;
       within = within (c.frame - c.req_slots) slots lengths.1;
-      room = above MAX_RESERVES (length (reserves_of h)) past_room.0;
+      room = above MAX_RESERVES (length (reserves_of c h)) past_room.0;
     }
 
 -- where three tests do not refuse the others do

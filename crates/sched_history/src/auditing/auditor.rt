@@ -6,12 +6,14 @@ ghost use Rattle.sched_calls.specs.declared.reply.TheConstants.{MAX_WHOLE_HISTOR
 ghost use Rattle.sched_history.specs.History.{IsStep, IsLegal};
 ghost use Rattle.sched_calls.specs.Reply.{IsEncodable};
 ghost use Rattle.sched_history.specs.Machine.{MayLackMemory};
+ghost use Rattle.sched_history.specs.Reserves.{met_after};
 ghost use Rattle.sched_history.specs.State.{IsKeptOf};
 
 use super::sameness::is_refused;
 use crate::fault::JudgeFault;
 use crate::ledger::Ledger;
 use crate::scheduler::{Present, Scheduler, State};
+use map_build::Met;
 use minislots::Checked;
 use sched_calls::{Call, Entry, MAX_WHOLE_HISTORY, Reply};
 use std::alloc::{AllocError, Global};
@@ -84,6 +86,22 @@ impl Auditor {
             Ok(false) => Err(JudgeFault::Illegal),
             Err(_) => Err(JudgeFault::Memory),
         }
+    }
+
+    /// What the MAP of an entry meets of the opportunities that wait after the entries that were taken, where its reply
+    /// may follow them: nothing where it has none. What is met goes by where elements begin, and never by what they say,
+    /// so it is asked before [`Auditor::judge`] takes the entry.
+    pub fn met(&self, entry: &Entry) -> Result<Vec<Met>, AllocError>
+        ensures met { IfOk result (λ met. IsStep self.now.config self.now.history entry.now.call entry.now.reply
+            → met.items ≡ met_after self.now.config self.now.history entry.now.reply) }
+        ensures memory { OnErr result
+            (MayLackMemory self.now.config self.now.history entry.now.call) }
+    {
+        let present = Present {
+            state: &self.state,
+            ledger: &self.ledger,
+        };
+        present.met(self.alloc, entry)
     }
 
     /// How many entries were taken.

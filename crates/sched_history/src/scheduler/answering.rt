@@ -258,8 +258,10 @@ impl State {
             → IsFollowed self.old self.new (Call.Build now) result h }
     {
         let PlannedFrame { map, overlay, met } = frame;
+        let settles = self.settles();
         self.book.take_in(overlay);
-        self.reserves.age(&met);
+        self.reserves.follow(settles, &met);
+        self.settling.follow(map.wire.ucd_count, self.next);
         self.next += u64::from(self.config.frame());
         Reply::Built(map)
     }

@@ -4,7 +4,7 @@ ghost use Rattle.std.specs.Prelude.{◌≡◌, ◌<◌, ◌≤◌, ◌+◌, Some
 ghost use Rattle.sched_calls.specs.FlowSpec.{is_periodic, is_kind_of, grants_of, takes_requests};
 ghost use Rattle.sched_history.specs.Life.{life_of, given_in};
 ghost use Rattle.sched_history.specs.Time.{next_after, progress_of};
-ghost use Rattle.sched_history.specs.Refusal.{bad_sid, is_live, is_silent, periodic_grants, refused_if};
+ghost use Rattle.sched_history.specs.Refusal.{bad_sid, is_to_bad_sid, is_live, is_silent, periodic_grants, refused_if};
 ghost use Rattle.sched_history.specs.Refusal.{first_of, refusal_of, is_bad_amount, is_great_amount, is_wide};
 ghost use Rattle.sched_history.specs.Refusal.{is_unsolicited, is_short_of_poll, other_grants};
 
@@ -14,6 +14,12 @@ use sched_calls::{Amount, Call, FlowSpec, Header, Refusal, Usage};
 
 // The greatest SID of a flow.
 const LAST_SID: u16 = 8191;
+// The first of the SIDs of modems that have traffic of some priorities.
+const FIRST_PRIORITY_SID: u16 = 0x3e01;
+// The last.
+const LAST_PRIORITY_SID: u16 = 0x3eff;
+// The SID of all modems.
+const ALL_MODEMS: u16 = 0x3fff;
 // The most minislots that are described ahead.
 const MOST_AHEAD: u64 = 4096;
 // The greatest exponent of a backoff window.
@@ -26,6 +32,21 @@ fn is_bad_sid(sid: u16) -> bool
     ensures { result ≡ bad_sid sid }
 {
     sid == 0 || sid > LAST_SID
+}
+
+// Whether no opportunity of this usage goes to its SID.
+fn is_to_bad_sid(usage: Usage) -> bool
+    ensures { result ≡ is_to_bad_sid usage }
+{
+    match usage {
+        Usage::Initial | Usage::Quiet => false,
+        Usage::InitialTo(sid) | Usage::Station(sid) | Usage::DataTo(sid) => is_bad_sid(sid),
+        Usage::Request(sid) => {
+            is_bad_sid(sid)
+                && !(FIRST_PRIORITY_SID..=LAST_PRIORITY_SID).contains(&sid)
+                && sid != ALL_MODEMS
+        }
+    }
 }
 
 // Whether a flow with these parameters has a place in the cycle.
@@ -380,9 +401,7 @@ impl<'a> Present<'a> {
         ensures { result ≡ refusal_of self.now.config self.now.history (Call.Reserve usage slots) }
     {
         let config = &self.state.config;
-        if let Usage::Station(sid) = usage
-            && is_bad_sid(sid)
-        {
+        if is_to_bad_sid(usage) {
             Some(Refusal::BadSid)
         } else if slots == 0 || slots > config.frame() - config.req_slots() {
             Some(Refusal::BadLength)

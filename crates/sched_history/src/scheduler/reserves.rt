@@ -1,6 +1,7 @@
 //! The Reserves that are neither met nor lapsed, in a fixed room.
 
 ghost use Rattle.std.specs.Prelude.{◌≡◌, ◌<◌, ◌≤◌, ◌+◌, ◌++◌, ◌∷◌, [], false, map, take, drop, length, nat_le, get_or};
+ghost use Rattle.std.specs.Prelude.{if◌then◌else◌};
 ghost use Rattle.sched_calls.specs.declared.call.TheConstants.{MAX_RESERVES};
 ghost use Rattle.map_build.specs.declared.TheConstants.{MAX_WAITING};
 ghost use Rattle.sched_history.specs.Reserves.{new_reserve, aged, left_of, unmarked};
@@ -9,7 +10,7 @@ use map_build::MAX_WAITING;
 use sched_calls::{MAX_RESERVES, Opportunity, Usage};
 use std::marker::Model;
 
-// The MAPs after which a Reserve has lapsed.
+// The MAPs that do not settle after which a Reserve has lapsed.
 const LAST_MAP: u8 = 64;
 
 // What stands in the room where no Reserve does.
@@ -21,7 +22,7 @@ const NO_RESERVE: Reserve = Reserve {
     maps: 0,
 };
 
-// An opportunity that was asked for, and how many MAPs came since.
+// An opportunity that was asked for, and how many MAPs that do not settle came since.
 #[derive(Clone, Copy)]
 pub(crate) struct Reserve {
     opportunity: Opportunity,
@@ -128,9 +129,18 @@ impl Reserves {
         waiting
     }
 
+    // The Reserves after a MAP that met those at the places of these marks. One that settles leaves them.
+    pub(crate) fn follow(&mut self, settles: bool, met: &[bool; MAX_WAITING])
+        ensures { self.new ≡ (if settles then self.old else aged (unmarked met.now self.old)) }
+    {
+        if !settles {
+            self.age(met);
+        }
+    }
+
     // The Reserves after a MAP that met those at the places of these marks: the others are one MAP older, and those
     // that have lapsed are gone.
-    pub(crate) fn age(&mut self, met: &[bool; MAX_WAITING])
+    fn age(&mut self, met: &[bool; MAX_WAITING])
         ensures { self.new ≡ aged (unmarked met.now self.old) }
     {
         let mut kept = 0;

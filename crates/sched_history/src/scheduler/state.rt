@@ -11,7 +11,7 @@ ghost use Rattle.flow_book.specs.Book.{IsLive, with_flow, new_flow, without};
 ghost use Rattle.periodic.specs.Placement.{IsPlacement, NoPlacement};
 ghost use Rattle.periodic.specs.Table.{placed_grants, IsPlaced, placed_at, with_placed, without as without_placed};
 ghost use Rattle.sched_calls.specs.declared.frame_map.FrameMap.{FrameMap};
-ghost use Rattle.map_build.specs.Opportunities.{MayWait, HaveStationSids};
+ghost use Rattle.map_build.specs.Opportunities.{MayWait, HaveElementSids};
 ghost use Rattle.map_build.specs.FrameMap.{IsLawfulMap, IsLawfulFrame};
 ghost use Rattle.map_build.specs.Spots.{AreOfChannel, ArePeriodicOf};
 ghost use Rattle.sched_calls.specs.declared.reply.Reply.TheVariants.{Flow};
@@ -19,14 +19,15 @@ ghost use Rattle.sched_history.specs.Time.{least, IsFirstStart};
 ghost use Rattle.sched_history.specs.History.{flow_status, IsNextMap};
 ghost use Rattle.sched_calls.specs.declared.reply.Entry.{Entry};
 ghost use Rattle.sched_history.specs.Reserves.{waiting_in};
-ghost use Rattle.sched_history.specs.State.{next_demand, IsStateAfter, IsOpenTo, IsOpen, IsBuildAfter, build_of};
+ghost use Rattle.sched_history.specs.State.{next_demand, settles_next, IsStateAfter, IsOpenTo, IsOpen, IsBuildAfter, build_of};
 ghost use Rattle.sched_history.specs.Facts.{IsWithinAsked};
 
 use super::planned::Planned;
 use super::refusing::is_periodic;
 use super::reserves::Reserves;
+use super::settling::Settling;
 use flow_book::Book;
-use map_build::{PlannedFrame, plan_with_book};
+use map_build::{PlannedFrame, plan_settling, plan_with_book};
 use minislots::Checked;
 use periodic::{PlaceFault, Table};
 use sched_calls::{Call, FlowSpec, Header, Placement, Reply};
@@ -46,6 +47,8 @@ pub(crate) struct State {
     pub(crate) reserves: Reserves,
     // The header of the next MAP.
     pub(crate) header: Header,
+    // By which MAPs settle.
+    pub(crate) settling: Settling,
 }
 
 // A placement as the answer that is handed out, where one is asked for.
@@ -95,6 +98,7 @@ impl State {
             progress: [start; 16],
             reserves: Reserves::none(),
             header: Header::of(&config),
+            settling: Settling::of(&config),
         })
     }
 
@@ -217,6 +221,16 @@ impl State {
         least_of(&self.progress[..usize::from(self.config.receivers())])
     }
 
+    // Whether the MAP of the next frame settles.
+    pub(super) fn settles(&self) -> bool
+        ensures { result ≡ settles_next self.now }
+    {
+        let settle = self.config.settle();
+        settle > 0
+            && (self.settling.changes(self.header.ucd_count)
+                || self.settling.is_near(self.next, settle))
+    }
+
     // The MAP of the next frame, and what it changes.
     fn plan_next(&self, alloc: Global) -> Result<PlannedFrame, AllocError>
         requires book_config { self.now.book.config ≡ self.now.config }
@@ -227,7 +241,7 @@ impl State {
         requires periodic { ArePeriodicOf self.now.book.flows self.now.table.placed }
         requires channel { AreOfChannel self.now.book.flows }
         requires waiting { MayWait (waiting_in self.now.reserves) }
-        requires stations { HaveStationSids (waiting_in self.now.reserves) }
+        requires stations { HaveElementSids (waiting_in self.now.reserves) }
         ensures lawful { IfOk result (λ p. IsLawfulFrame self.now.config (next_demand self.now)
             self.now.header (least (take self.now.config.receivers self.now.progress)) p) }
         ensures only { IfOk result (λ p. (n : FrameMap)
@@ -236,6 +250,9 @@ impl State {
         ensures encodable { IfOk result (λ p. IsWellFormed p.map.wire) }
         ensures config { IfOk result (λ p. p.overlay.config ≡ self.now.config) }
     {
+        if self.settles() {
+            return plan_settling(alloc, &self.book, self.header, self.next, self.ack());
+        }
         let frame = self.next / u64::from(self.config.frame());
         let waiting = self.reserves.waiting();
         let waiting = &waiting[..self.reserves.waiting_count()];

@@ -32,25 +32,30 @@ no_write span unread left Memory stops is = cc
 no_write span unread left Output stops is = stops
 
 pub returns-in-Err-clause-stops : goal.returns-in-Err-clause-stops
-returns-in-Err-clause-stops g c = λ before given.
+returns-in-Err-clause-stops g c = λ before read.
     stops_drawing c.args.span before (g.R.Source.remaining c.take_entries.new.reader) c.in-Err.fault
-    (rw c.none-part.ensures.span at (c.in-Err.ensures.stops before given))
+    (rw c.in-Ok.ensures.span at (c.in-Err.ensures.stops before (rw c.in-Ok.ensures.config read)))
 
 pub returns-in-Err-clause-failed_write : goal.returns-in-Err-clause-failed_write
-returns-in-Err-clause-failed_write g c = λ before given is.
+returns-in-Err-clause-failed_write g c = λ before read is.
     absurd (no_write c.args.span before (g.R.Source.remaining c.take_entries.new.reader) c.in-Err.fault
-    (rw c.none-part.ensures.span at (c.in-Err.ensures.stops before given)) is)
+    (rw c.in-Ok.ensures.span at (c.in-Err.ensures.stops before (rw c.in-Ok.ensures.config read))) is)
 
 pub returns-in_err-put_part-clause-failed_write : goal.returns-in_err-put_part-clause-failed_write
-returns-in_err-put_part-clause-failed_write g c = λ before given.
+returns-in_err-put_part-clause-failed_write g c = λ before read.
     let p = err_from_is_err_and c.from_residual.result c.from_residual.ensures.1 in
-    rw (p.1, p.2) (λ is. (c.in_err-put_part.ensures c.take_entries.new.entries.auditor.history c.in-Ok.ensures.taken).1)
+    rw (p.1, p.2) (λ is. c.in_err-put_part.ensures.1)
 
 pub returns-clause-draws : goal.returns-clause-draws
-returns-clause-draws g c = λ before given. record {
-  config = c.args.config.now;
-  entries = c.take_entries.new.entries.auditor.history;
-  ends = rw c.requires.same at (c.in-Ok.ensures.takes before given);
-  written = rw (c.in-Ok.ensures.span ∙ c.none-part.ensures.span)
-      at (c.in_ok-put_part.ensures c.take_entries.new.entries.auditor.history c.in-Ok.ensures.taken).0;
-}
+returns-clause-draws g c = λ before read.
+    let config = c.in-Ok.ensures.config in
+    let ends = c.in-Ok-take_entries.ensures.takes before (rw config read) in
+    record {
+      config = c.args.config.now;
+      entries = c.take_entries.new.part.auditor.history;
+      ends = rw config at ends;
+      written = rw (
+        c.in-Ok-take_entries.ensures.config ∙ config,
+        c.in-Ok-take_entries.ensures.span ∙ c.in-Ok.ensures.span,
+      ) at c.in_ok-put_part.ensures.0;
+    }

@@ -2,7 +2,7 @@
 use Rattle.std.proofs.Common.{arith}
 use Rattle.std.proofs.lemmas.Result.{IfOk-weaker}
 use Rattle.flow_book.specs.Queue.{still_waits}
-use Rattle.flow_book.proofs.Removal.{fewer-filter}
+use Rattle.sched_calls.proofs.Removal.{fewer-filter}
 use Rattle.flow_book.proofs.overlay.room_for_served.Goals as goal
 
 pub returns-then-is_long-clause-room : goal.returns-then-is_long-clause-room

@@ -2,7 +2,7 @@
 use Rattle.std.proofs.Common.{refl, ap, length, arith}
 use Rattle.flow_book.specs.declared.queue.Waiting.{Waiting}
 use Rattle.flow_book.proofs.InParts.{put-queued, none-set, fewer-wait, one-waits}
-use Rattle.flow_book.proofs.Insertion.{length-put_in}
+use Rattle.sched_calls.proofs.Insertion.{length-put_in}
 use Rattle.flow_book.proofs.parts.put_queued.Goals as goal
 
 pub put_reserved-requires-clause-room : goal.put_reserved-requires-clause-room

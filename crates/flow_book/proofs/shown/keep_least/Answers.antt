@@ -5,9 +5,9 @@ use Rattle.std.specs.List.Sorted.{IsNonDecreasingBy}
 use Rattle.std.proofs.lemmas.Bool.Decides.{nat_tests}
 use Rattle.std.proofs.lemmas.List.Sorted.{IsPartitionPoint-from_clause, IsPartitionedBy-leb}
 use Rattle.std.proofs.lemmas.List.Sums.{position_or_len_is}
-use Rattle.flow_book.specs.Sids.{put_in}
+use Rattle.sched_calls.specs.Sids.{put_in}
 use Rattle.flow_book.specs.Line.{itself}
-use Rattle.flow_book.proofs.Insertion.{insert-put_in}
+use Rattle.sched_calls.proofs.Insertion.{insert-put_in}
 use Rattle.flow_book.proofs.Lines.{order-rises}
 use Rattle.flow_book.proofs.shown.keep_least.Goals as goal
 

@@ -4,7 +4,7 @@ use Rattle.std.proofs.lemmas.Bool.Decides.{nat_tests}
 use Rattle.std.proofs.lemmas.List.{length-append}
 use Rattle.flow_book.specs.Queue.{still_waits}
 use Rattle.flow_book.specs.Pending.{waiting_in}
-use Rattle.flow_book.proofs.Removal.{fewer-filter}
+use Rattle.sched_calls.proofs.Removal.{fewer-filter}
 use Rattle.flow_book.proofs.shown.wait_few.Goals as goal
 
 pub returns-then-queue-served : goal.returns-then-queue-served

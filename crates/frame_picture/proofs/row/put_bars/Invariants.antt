@@ -12,5 +12,5 @@ invariant-loop-i g l =
     Appends (append_known (g.W.Sink.contents l.initial.writer) l.initial.lines)
     (append_known (g.W.Sink.contents l.writer) l.lines)
     (flat_map bar_text
-    (map (bar_at l.units (λ sid. get_or l.flows sid false) l.elements l.bytes) (range_with_len 0 l.i)))
+    (map (bar_at l.units (λ sid. get_or l.flows sid false) l.met l.elements l.bytes) (range_with_len 0 l.i)))
     × (g.W.Sink.has_failed l.writer ≡ g.W.Sink.has_failed l.initial.writer)

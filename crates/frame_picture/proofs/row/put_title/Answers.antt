@@ -8,7 +8,7 @@ unfolding title_text
 returns g c =
     let sid = rw c.from.ensures at c.in_ok-put_labelled.ensures in
     let origin = rw c.origin_of.ensures at c.in_ok-put-2.ensures in
-    let words = rw c.words.ensures at c.in_ok-put-3.ensures in
+    let words = rw c.words_in.ensures at c.in_ok-put-3.ensures in
     let offset = rw c.from-2.ensures at c.in_ok-put_labelled-2.ensures in
     let length = rw c.from-3.ensures at c.in_ok-put_labelled-3.ensures in
     let bytes = rw c.from-4.ensures at c.in_ok-put_labelled-4.ensures in

@@ -9,4 +9,5 @@ unfolding config_of
 returns g c = sym (
     then _ c.in_ok-ticks.ensures (then _ c.in_ok-bursts.ensures (then _ c.in_ok-req_slots.ensures (
     then _ c.in_ok-receivers.ensures (then _ c.in_ok-ranging_start.ensures (then _ c.in_ok-data_start.ensures (
-    then _ c.in_ok-phy.ensures (then _ c.in_ok-flows.ensures refl))))))))
+    then _ c.in_ok-phy.ensures (then _ c.in_ok-flows.ensures (
+    then _ c.in_ok-open_idle.ensures refl)))))))))

@@ -16,7 +16,7 @@ pub fill-requires-clause-unfilled : goal.fill-requires-clause-unfilled
 fill-requires-clause-unfilled c =
     begun-here c.args.book.now.config
     (demand_at c.args.book.now.flows c.args.spots.now c.args.waiting.now c.args.start) c.in_ok-draft.draft
-    (c.in_ok-draft.ensures c.args.spots.now c.args.waiting.now c.requires.placed)
+    refl (c.in_ok-draft.ensures c.args.spots.now c.args.waiting.now c.requires.placed)
 
 pub put_end-requires-clause-full : goal.put_end-requires-clause-full
 put_end-requires-clause-full c =
@@ -33,7 +33,7 @@ pub returns-clause-lawful : goal.returns-clause-lawful
 returns-clause-lawful c =
     planned c.args.book.now.config
     (demand_at c.args.book.now.flows c.args.spots.now c.args.waiting.now c.args.start) c.args.header c.args.progress
-    c.in_ok-ack.ack c.in_ok-draft.draft c.fill.new.self c.put_end.new.self _ c.requires.placed
+    c.in_ok-ack.ack c.in_ok-draft.draft c.fill.new.self c.put_end.new.self _ refl c.requires.placed
     (c.in_ok-draft.ensures c.args.spots.now c.args.waiting.now c.requires.placed)
     c.in_ok-fill.ensures c.in_ok-ack.ensures.ends c.in_ok-ack.ensures.ack c.into_map-map.ensures.made c.into_map-map.ensures.overlay refl
 

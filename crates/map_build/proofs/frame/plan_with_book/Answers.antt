@@ -1,5 +1,5 @@
 -- The spots that the table writes are those of the frame, in another order.
-use Rattle.std.proofs.Common.{◌*◌, ◌≤◌, ◌∙◌, List, ap, length, take, arith}
+use Rattle.std.proofs.Common.{◌*◌, ◌≤◌, ◌∙◌, List, refl, ap, length, take, arith}
 use Rattle.std.proofs.lemmas.List.{length-take}
 use Rattle.periodic.specs.declared.placement.Spot.{Spot}
 use Rattle.periodic.specs.Placement.{due_in}
@@ -37,7 +37,7 @@ returns-clause-first c =
     let config = c.args.book.now.config in
     meets-first-ok config
     (demand_at c.args.book.now.flows (due_in config c.args.frame c.args.table.now.placed) c.args.waiting.now
-    (c.args.frame * config.frame)) c.args.header c.args.progress c.plan_around.result c.requires.waiting
+    (c.args.frame * config.frame)) c.args.header c.args.progress c.plan_around.result refl c.requires.waiting
     (returns-clause-lawful c)
 
 pub returns-clause-encodable : goal.returns-clause-encodable

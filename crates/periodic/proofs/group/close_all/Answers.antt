@@ -1,7 +1,7 @@
 -- The groups that have flows are left.
 use Rattle.std.proofs.Common.{◌≡◌, ◌∙◌, ap, filter, rules}
 use Rattle.std.proofs.lemmas.Fn.{filter_same}
-use Rattle.flow_book.proofs.Removal.{all-filter}
+use Rattle.sched_calls.proofs.Removal.{all-filter}
 use Rattle.periodic.specs.Groups.{flows_in, IsSoundGroup}
 use Rattle.periodic.proofs.Filled.{has_flows, flows-filled, filled-all}
 use Rattle.periodic.proofs.group.close_all.Goals as goal

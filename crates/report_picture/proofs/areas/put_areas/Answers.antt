@@ -7,7 +7,8 @@ pub returns : goal.returns
 unfolding areas_text
 returns g c =
     then_text _ _ _ _ _ _ _ _ _ c.in_ok-put_area.ensures
+    (then_text _ _ _ _ _ _ _ _ _ c.in_ok-put_open_area.ensures
     (then_text _ _ _ _ _ _ _ _ _ c.in_ok-put_area-2.ensures
     (then_text _ _ _ _ _ _ _ _ _ c.in_ok-put_area-3.ensures
     (then_text _ _ _ _ _ _ _ _ _ c.in_ok-put_area-4.ensures
-    (then_text _ _ _ _ _ _ _ _ _ c.in_ok-put_area-5.ensures c.put_area-6.ensures))))
+    (then_text _ _ _ _ _ _ _ _ _ c.in_ok-put_area-5.ensures c.put_area-6.ensures)))))

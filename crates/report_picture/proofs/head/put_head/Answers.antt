@@ -11,4 +11,5 @@ returns g c =
     (then_text _ _ _ _ _ _ _ _ _ c.in_ok-put_request_patterns.ensures
     (then_text _ _ _ _ _ _ _ _ _ c.in_ok-put_other_patterns.ensures
     (then_text _ _ _ _ _ _ _ _ _ c.in_ok-put_title.ensures
-    (then_text _ _ _ _ _ _ _ _ _ c.in_ok-put_first_keys.ensures c.put_last_keys.ensures)))))
+    (then_text _ _ _ _ _ _ _ _ _ c.in_ok-put_first_keys.ensures
+    (then_text _ _ _ _ _ _ _ _ _ c.in_ok-put_last_keys.ensures c.put_open_key.ensures))))))

@@ -14,7 +14,7 @@ returns g c =
     let told = c.over_time-over_time.ensures.told in
     let ranks = c.ranks_told-ranks.result in (
       report_text (course_of past.config (totals_of past.config past.history) (length fs) width)
-          (totals_of past.config past.history) (all_steps width fs) ranks,
+          (totals_of past.config past.history) (all_steps past.config width fs) ranks,
       record {
         width = width;
         is_width = told.width;
@@ -28,7 +28,7 @@ returns g c =
         c.course_of-course.ensures.value,
         c.totals-totals.ensures,
         c.reporter.ensures,
-        c.all_steps-steps.ensures fs told,
+        c.all_steps-steps.ensures past.config fs told,
         told.are.count,
         c.requires.same,
       )

@@ -21,9 +21,10 @@ allocation_at-requires c =
 
 pub count_at-requires-clause-live : goal.count_at-requires-clause-live
 count_at-requires-clause-live c =
+    let met = c.args.met.now in
     HaveMore-live c.requires.front.0 (λ (sid : ℕ). []) c.loop-i.i
     (λ (spec : FlowSpec) (sid : ℕ).
-    sum_by (unsolicited_at spec sid) (first_allocations c.args.elements.now c.loop-i.i)) c.args.lives.now
+    sum_by (unsolicited_at met spec sid) (first_allocations c.args.elements.now c.loop-i.i)) c.args.lives.now
     c.loop-i.lives c.loop-i.auto.lives
     (c.loop-i.invariant.more c.requires.front.0) c.args.places.now c.requires.live
 
@@ -44,39 +45,44 @@ count_at-requires-clause-few c = λ k t below alive.
     )
 
 pub loop-i-preserved : goal.loop-i-preserved
-loop-i-preserved c = record {
-  end = c.loop-i.invariant.end;
-  more = λ k.
-      HaveMore-then k (λ (sid : ℕ). []) c.loop-i.i
-      (λ (spec : FlowSpec) (sid : ℕ).
-      sum_by (unsolicited_at spec sid) (first_allocations c.args.elements.now c.loop-i.i)) c.args.lives.now
-      c.loop-i.lives c.loop-i.auto.lives (c.loop-i.invariant.more k)
-      (λ (sid : ℕ). []) (λ (sid : ℕ). []) 1 (c.loop-i.i + 1)
-      (λ (spec : FlowSpec) (sid : ℕ). unsolicited_at spec sid (allocation_at c.args.elements.now c.loop-i.i))
-      (λ (spec : FlowSpec) (sid : ℕ).
-      sum_by (unsolicited_at spec sid) (first_allocations c.args.elements.now (c.loop-i.i + 1)))
-      c.count_at.new.lives (rw c.allocation_at.ensures at c.count_at.ensures k) (λ sid. refl)
-      (omega arith) (λ spec sid. unsolicited-more spec sid c.args.elements.now c.loop-i.i);
-}
+loop-i-preserved c =
+    let met = c.args.met.now in
+    record {
+      end = c.loop-i.invariant.end;
+      more = λ k.
+          HaveMore-then k (λ (sid : ℕ). []) c.loop-i.i
+          (λ (spec : FlowSpec) (sid : ℕ).
+          sum_by (unsolicited_at met spec sid) (first_allocations c.args.elements.now c.loop-i.i)) c.args.lives.now
+          c.loop-i.lives c.loop-i.auto.lives (c.loop-i.invariant.more k)
+          (λ (sid : ℕ). []) (λ (sid : ℕ). []) 1 (c.loop-i.i + 1)
+          (λ (spec : FlowSpec) (sid : ℕ). unsolicited_at met spec sid (allocation_at c.args.elements.now c.loop-i.i))
+          (λ (spec : FlowSpec) (sid : ℕ).
+          sum_by (unsolicited_at met spec sid) (first_allocations c.args.elements.now (c.loop-i.i + 1)))
+          c.count_at.new.lives (rw c.allocation_at.ensures at c.count_at.ensures k) (λ sid. refl)
+          (omega arith) (λ spec sid. unsolicited-more met spec sid c.args.elements.now c.loop-i.i);
+    }
 
 pub loop-i-init : goal.loop-i-init
-loop-i-init c = record {
-  end = c.front_len-i-end.ensures.count;
-  more = λ k.
-      HaveMore-none k (λ (sid : ℕ). []) 0 (λ (spec : FlowSpec) (sid : ℕ).
-      sum_by (unsolicited_at spec sid) (first_allocations c.args.elements.now 0)) c.args.lives.now
-      (λ i t below alive. refl) (λ i t below alive. refl);
-}
+loop-i-init c =
+    let met = c.args.met.now in
+    record {
+      end = c.front_len-i-end.ensures.count;
+      more = λ k.
+          HaveMore-none k (λ (sid : ℕ). []) 0 (λ (spec : FlowSpec) (sid : ℕ).
+          sum_by (unsolicited_at met spec sid) (first_allocations c.args.elements.now 0)) c.args.lives.now
+          (λ i t below alive. refl) (λ i t below alive. refl);
+    }
 
 pub returns : goal.returns
 returns c = λ k.
+    let met = c.args.met.now in
     let last : c.loop-i.i ≡ front_length c.args.elements.now =
     omega (arith, c.loop-i-test.false, c.loop-i.auto.i-end, c.loop-i.invariant.end) in
     HaveMore-is k (λ (sid : ℕ). []) c.loop-i.i (λ (spec : FlowSpec) (sid : ℕ).
-    sum_by (unsolicited_at spec sid) (first_allocations c.args.elements.now c.loop-i.i)) (λ (sid : ℕ). [])
+    sum_by (unsolicited_at met spec sid) (first_allocations c.args.elements.now c.loop-i.i)) (λ (sid : ℕ). [])
     (length c.args.elements.now)
     (λ (spec : FlowSpec) (sid : ℕ).
-    sum_by (unsolicited_at spec sid) (first_allocations c.args.elements.now (front_length c.args.elements.now)))
+    sum_by (unsolicited_at met spec sid) (first_allocations c.args.elements.now (front_length c.args.elements.now)))
     c.args.lives.now c.loop-i.lives (λ sid. refl)
     (omega (
       arith,
@@ -85,5 +91,5 @@ returns c = λ k.
       c.front_len-i-end.ensures.count,
       c.front_len-i-end.ensures.within,
     ))
-    (λ spec sid. ap (λ (n : ℕ). sum_by (unsolicited_at spec sid) (first_allocations c.args.elements.now n)) last)
+    (λ spec sid. ap (λ (n : ℕ). sum_by (unsolicited_at met spec sid) (first_allocations c.args.elements.now n)) last)
     (c.loop-i.invariant.more k)

@@ -12,5 +12,5 @@ abbrev pub invariant-loop-i : goal.invariant-loop-i
 invariant-loop-i l = record {
   end : l.i-end ≡ front_length l.elements;
   more : (c : Config) → HaveMore c (λ sid. []) l.i
-      (λ spec sid. sum_by (unsolicited_at spec sid) (first_allocations l.elements l.i)) l.initial.lives l.lives;
+      (λ spec sid. sum_by (unsolicited_at l.met spec sid) (first_allocations l.elements l.i)) l.initial.lives l.lives;
 }

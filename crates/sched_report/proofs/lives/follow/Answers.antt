@@ -5,8 +5,8 @@ use Rattle.sched_history.proofs.steps.LegalBounds.{next_after-most}
 use Rattle.sched_report.specs.declared.life.LifeTally.{LifeTally}
 use Rattle.sched_report.specs.Live.{AreLive, IsAlone}
 use Rattle.sched_report.specs.Lives.{PastLife, lives_of, with_entry}
-use Rattle.sched_report.specs.ToldLives.{AreLives, MayNoteEach}
-use Rattle.sched_report.proofs.LivesEach.{may_note_each}
+use Rattle.sched_report.specs.ToldLives.{AreLives, MayNoteEach, MeetsEach}
+use Rattle.sched_report.proofs.LivesEach.{may_note_each, meets_each}
 use Rattle.sched_report.proofs.LivesGoing.{alone-after}
 use Rattle.sched_report.proofs.MayNotes.{orderly_map}
 use Rattle.sched_report.proofs.PastLives.{lives_of-push}
@@ -38,7 +38,8 @@ returns-clause-lives c = λ h m.
     let may : MayNoteEach k (lives_of h) c.args.next e =
     subst (λ s. MayNoteEach k (lives_of h) s e) (sym m.next)
     (may_note_each k m.lawful h m.legal e m.step m.short) in
-    let noted : AreLives k c.note_each.new.lives more = c.note_each.ensures.lives (lives_of h) old may in
+    let meets : MeetsEach k (lives_of h) e c.args.met.now = meets_each k h m.legal e c.args.met.now m.meets in
+    let noted : AreLives k c.note_each.new.lives more = c.note_each.ensures.lives (lives_of h) old may meets in
     subst (AreLives k c.begin_life.new.lives.items) (sym (lives_of-push h e))
     (c.begin_life.ensures.lives k h more (c.next_with-after.ensures h m.next)
     (subst (λ (ts : List LifeTally). AreLives k ts more)
@@ -64,9 +65,10 @@ begin_life-requires-clause-alone c =
     subst (λ (ts : List LifeTally). AreLives k ts (lives_of h)) (sym c.deref_mut.ensures.value) m.lives in
     let may : MayNoteEach k (lives_of h) c.args.next e =
     subst (λ s. MayNoteEach k (lives_of h) s e) (sym m.next) (may_note_each k m.lawful h m.legal e m.step m.short) in
+    let meets : MeetsEach k (lives_of h) e c.args.met.now = meets_each k h m.legal e c.args.met.now m.meets in
     subst (IsAlone e.call e.reply)
     (sym (with_items_is c.args.lives.now c.note_each.new.lives (c.note_each.auto.lives ∙ c.deref_mut.ensures.len)))
-    (alone-after k c.note_each.new.lives (lives_of h) e (c.note_each.ensures.lives (lives_of h) old may))
+    (alone-after k c.note_each.new.lives (lives_of h) e (c.note_each.ensures.lives (lives_of h) old may meets))
 
 pub begin_life-requires-clause-live : goal.begin_life-requires-clause-live
 begin_life-requires-clause-live c =

@@ -51,6 +51,7 @@ pub returns : goal.returns
 returns c =
     let k = c.args.config.now in
     let m = c.args.map.now in
+    let met = c.args.met.now in
     let old = c.args.lives.now in
     let granted : HaveMore k (λ sid. grants_of_map sid m) 0 (λ spec sid. 0) old c.grant_each.new.lives =
     subst (λ (bs : List ℕ). HaveMore k (λ sid. filter_map (grant_by sid m.start) (zip m.wire.elements bs))
@@ -58,14 +59,14 @@ returns c =
     (subst (λ (es : List Element). HaveMore k (λ sid. filter_map (grant_by sid m.start)
     (zip es c.as_slice-counts.result.now)) 0 (λ spec sid. 0) old c.grant_each.new.lives) c.as_slice-elements.ensures
     c.grant_each.ensures) in
-    let counted : HaveMore k (λ sid. []) (length m.wire.elements) (λ spec sid. unsolicited_of_map spec sid m)
+    let counted : HaveMore k (λ sid. []) (length m.wire.elements) (λ spec sid. unsolicited_of_map met spec sid m)
     c.grant_each.new.lives c.count_each.new.lives =
-    subst (λ (es : List Element). HaveMore k (λ sid. []) (length es) (λ spec sid. sum_by (unsolicited_at spec sid)
+    subst (λ (es : List Element). HaveMore k (λ sid. []) (length es) (λ spec sid. sum_by (unsolicited_at met spec sid)
     (allocations_of es)) c.grant_each.new.lives c.count_each.new.lives) c.as_slice-elements.ensures
     (c.count_each.ensures k) in
     HaveMore-then k (λ (sid : ℕ). grants_of_map sid m) 0 (λ (spec : FlowSpec) (sid : ℕ). 0) old c.grant_each.new.lives
     c.grant_each.auto.lives granted (λ (sid : ℕ). []) (λ (sid : ℕ). grants_of_map sid m) (length m.wire.elements)
     (length m.wire.elements)
-    (λ (spec : FlowSpec) (sid : ℕ). unsolicited_of_map spec sid m)
-    (λ (spec : FlowSpec) (sid : ℕ). unsolicited_of_map spec sid m) c.count_each.new.lives counted
+    (λ (spec : FlowSpec) (sid : ℕ). unsolicited_of_map met spec sid m)
+    (λ (spec : FlowSpec) (sid : ℕ). unsolicited_of_map met spec sid m) c.count_each.new.lives counted
     (λ sid. append-nil (grants_of_map sid m)) (omega arith) (λ spec sid. omega arith)

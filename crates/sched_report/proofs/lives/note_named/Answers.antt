@@ -3,8 +3,8 @@ use Rattle.std.proofs.Common.{◌≡◌, ◌<◌, length, get_or, set, refl, inl
 use Rattle.std.proofs.lemmas.Bool.{cases_eq}
 use Rattle.std.proofs.lemmas.List.{get_or-set_same, get_or-set_other, get_or_default, length-set}
 use Rattle.sched_report.specs.declared.life.LifeTally.{LifeTally}
-use Rattle.sched_report.specs.Lives.{with_entry}
-use Rattle.sched_report.specs.Told.{IsLifeOf}
+use Rattle.sched_report.specs.Lives.{PastLife, with_entry}
+use Rattle.sched_report.specs.Told.{IsLifeOf, MayNote}
 use Rattle.sched_report.proofs.LifeNotes.{none_of}
 use Rattle.sched_report.proofs.LivesEach.{no_life}
 use Rattle.sched_report.proofs.LivesGoing.{AreLives-map}
@@ -15,7 +15,8 @@ use Rattle.sched_report.proofs.lives.note_named.Goals as goal
 pub returns-in_default-clause-lives : goal.returns-in_default-clause-lives
 returns-in_default-clause-lives c = λ ls are may.
     let k = c.args.config.now in
-    AreLives-map k c.args.lives.now c.args.lives.now ls c.args.next c.args.entry.now are may refl
+    AreLives-map k c.args.lives.now c.args.lives.now ls c.args.entry.now
+    (λ (life : PastLife). MayNote k life c.args.next c.args.entry.now) are may refl
     (λ i t life below is may. goes_on-silent k (get_or c.args.lives.now i t) life c.args.next c.args.entry.now
     (sym c.named_by.ensures ∙ none_of _ c.in_default.not-Some) c.requires.unbuilt is may)
 
@@ -37,7 +38,8 @@ returns-then-place-lives-clause-lives c = λ ls are may.
     let p = c.place_under-place.result in
     let new = c.note.new.self in
     let inside : p < length ts = omega (arith, c.if-place-lives.true) in
-    AreLives-map k ts (set ts p new) ls c.args.next e are may (length-set ts p new) (λ i t life below is may_note.
+    AreLives-map k ts (set ts p new) ls e (λ (life : PastLife). MayNote k life c.args.next e) are may
+    (length-set ts p new) (λ i t life below is may_note.
     elim (cases_eq i p) [
       | inl at ↦
           let here : get_or (set ts p new) i t ≡ new =
@@ -57,7 +59,8 @@ pub returns-else-place-lives-clause-lives : goal.returns-else-place-lives-clause
 returns-else-place-lives-clause-lives c = λ ls are may.
     let k = c.args.config.now in
     let ts = c.args.lives.now in
-    AreLives-map k ts ts ls c.args.next c.args.entry.now are may refl (λ i t life below is may_note.
+    AreLives-map k ts ts ls c.args.entry.now (λ (life : PastLife). MayNote k life c.args.next c.args.entry.now) are may
+    refl (λ i t life below is may_note.
     goes_on-apart c.args.places.now ts c.requires.live i t below k c.in-Some.sid life c.args.next c.args.entry.now
     (sym c.named_by.ensures ∙ c.in-Some.is) c.requires.unbuilt
     (λ at. omega (arith, at, below, c.place_under-place.ensures, c.if-place-lives.false)) is may_note)

@@ -8,7 +8,7 @@ use Rattle.sched_calls.specs.declared.spec.FlowSpec.{FlowSpec}
 use Rattle.flow_book.specs.Flows.{LiveFlow, outstanding}
 use Rattle.flow_book.specs.Entry.{live, IsSoundFlow, KeepsSums}
 use Rattle.flow_book.specs.Book.{new_flow, with_flow}
-use Rattle.flow_book.proofs.Insertion.{insert-put_in}
+use Rattle.sched_calls.proofs.Insertion.{insert-put_in}
 use Rattle.flow_book.proofs.Admission.{sound-with_flow, room-insert}
 use Rattle.flow_book.proofs.Sums.{all-insert}
 use Rattle.flow_book.proofs.book.Book.admit.Goals as goal

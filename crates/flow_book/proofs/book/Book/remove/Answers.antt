@@ -5,7 +5,8 @@ use Rattle.flow_book.specs.Flows.{LiveFlow}
 use Rattle.flow_book.specs.Entry.{live, room_in, IsSoundBook, KeepsSums}
 use Rattle.flow_book.specs.Book.{Room, room_of}
 use Rattle.flow_book.proofs.Admission.{room-found}
-use Rattle.flow_book.proofs.Removal.{map-filter, sound-filter, all-filter, room-filter}
+use Rattle.sched_calls.proofs.Removal.{map-filter, all-filter}
+use Rattle.flow_book.proofs.Removal.{sound-filter, room-filter}
 use Rattle.flow_book.proofs.Shifts.{filter-at}
 use Rattle.flow_book.proofs.book.Book.remove.Goals as goal
 

@@ -1,4 +1,4 @@
--- The fields before the most flows, these where they stand, and those behind.
+-- The fields before the most flows, these where they stand, those behind, and the open idles where they stand.
 use Rattle.std.proofs.Common.{[], ◌∷◌}
 use Rattle.text_stream.proofs.Written.{where_ok}
 use Rattle.history_writing.proofs.JsonTokens.{in_turn}
@@ -6,7 +6,9 @@ use Rattle.history_writing.proofs.history.config.put_front.Goals as goal
 
 pub returns-clause-ok : goal.returns-clause-ok
 returns-clause-ok c =
-    where_ok c.put_counts-2.result (λ put. in_turn c.args.out.now.tokens
-    (c.put_counts.new.out.tokens ∷ c.put_optional.new.out.tokens ∷ c.put_counts-2.new.out.tokens ∷ [])
-    (_ ∷ _ ∷ _ ∷ []) (c.in_ok-put_counts.ensures.ok, (c.in_ok-put_optional.ensures.ok, (put, tt))))
-    c.put_counts-2.ensures.ok
+    where_ok c.put_optional-2.result (λ put. in_turn c.args.out.now.tokens
+    (c.put_counts.new.out.tokens ∷ c.put_optional.new.out.tokens ∷ c.put_counts-2.new.out.tokens
+    ∷ c.put_optional-2.new.out.tokens ∷ [])
+    (_ ∷ _ ∷ _ ∷ _ ∷ [])
+    (c.in_ok-put_counts.ensures.ok, (c.in_ok-put_optional.ensures.ok, (c.in_ok-put_counts-2.ensures.ok, (put, tt)))))
+    c.put_optional-2.ensures.ok

@@ -1,5 +1,5 @@
 -- An allocation more that may stand there is one of the plan, and the spots behind it are left.
-use Rattle.std.proofs.Common.{rules, arith}
+use Rattle.std.proofs.Common.{refl, rules, arith}
 use Rattle.minislots.proofs.Bounds.{bounds_of}
 use Rattle.map_build.specs.Plan.{demand_at}
 use Rattle.map_build.proofs.Left.{left-all}
@@ -29,7 +29,7 @@ put_allocation-requires-clause-fits c =
     let d = c.args.self.now in
     let demand = demand_at d.overlay.flows c.args.spots.now c.args.waiting.now d.start in
     let fits = chosen-fits d.overlay.config demand c.loop-self.left.now c.loop-self.invariant.0 c.next-next.result.allocation
-    c.loop-self.self c.next-next.new.self c.requires.placed c.loop-self.invariant.1 c.loop-self.invariant.2
+    c.loop-self.self c.next-next.new.self refl c.requires.placed c.loop-self.invariant.1 c.loop-self.invariant.2
     c.next-next.ensures.stands in
     omega (arith, fits, (bounds_of _ c.requires.unfilled.ready.lawful).frame_most)
 
@@ -41,11 +41,11 @@ loop-self-preserved c =
     let left = c.loop-self.left.now in (
       _,
       chosen-plan d.overlay.config demand left plan c.next-next.result.allocation c.loop-self.self c.next-next.new.self
-          c.requires.placed c.loop-self.invariant.1 c.loop-self.invariant.2 c.next-next.ensures.stands
+          refl c.requires.placed c.loop-self.invariant.1 c.loop-self.invariant.2 c.next-next.ensures.stands
           c.put_allocation.new.self c.in_ok-put_allocation.ensures,
       rw c.left_at-left.ensures
           (chosen-left d.overlay.config demand left plan c.next-next.result.allocation c.loop-self.self c.next-next.new.self
-          c.requires.placed c.loop-self.invariant.1 c.loop-self.invariant.2 c.next-next.ensures.stands
+          refl c.requires.placed c.loop-self.invariant.1 c.loop-self.invariant.2 c.next-next.ensures.stands
           c.put_allocation.new.self c.in_ok-put_allocation.ensures),
     )
 

@@ -28,5 +28,8 @@ returns-in_err-check_backoffs c = grind (arith, first_wrong_by_groups c.args.sel
 pub returns-in_err-check_channel : goal.returns-in_err-check_channel
 returns-in_err-check_channel c = grind (arith, first_wrong_by_groups c.args.self.now)
 
+pub returns-in_err-check_flows : goal.returns-in_err-check_flows
+returns-in_err-check_flows c = grind (arith, first_wrong_by_groups c.args.self.now)
+
 pub returns : goal.returns
 returns c = grind (arith, first_wrong_by_groups c.args.self.now)

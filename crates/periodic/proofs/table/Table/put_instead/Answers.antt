@@ -1,7 +1,7 @@
 -- The old flow is taken out of the rows and the counts, and the new one put in.
 use Rattle.std.proofs.Common.{◌≡◌, refl, sym, ap, ◌∙◌, true, false, length, arith}
 use Rattle.std.proofs.lemmas.List.{take_at}
-use Rattle.flow_book.proofs.Insertion.{length-put_in}
+use Rattle.sched_calls.proofs.Insertion.{length-put_in}
 use Rattle.periodic.specs.Placement.{Placed}
 use Rattle.periodic.specs.Table.{with_placed, without}
 use Rattle.periodic.specs.Fields.{placed_of, IsSoundFlow}

@@ -12,9 +12,9 @@ loop-i-preserved c =
     let i = c.loop-i.i in
     let w = c.args.self.now.width in (
       omega (arith, ap length c.push.ensures, length_push c.loop-i.steps c.step.result, c.loop-i.invariant.0),
-      λ fs is.
+      λ k fs is.
           c.push.ensures
-          ∙ ap (λ (ss : List Step). ss ++ c.step.result ∷ []) (c.loop-i.invariant.1 fs is)
-          ∙ ap (λ (s : Step). map (step_at w fs) (range_with_len 0 i) ++ s ∷ []) (c.step.ensures fs is)
-          ∙ sym (map-range_with_len_more (step_at w fs) 0 i i (omega arith)),
+          ∙ ap (λ (ss : List Step). ss ++ c.step.result ∷ []) (c.loop-i.invariant.1 k fs is)
+          ∙ ap (λ (s : Step). map (step_at k w fs) (range_with_len 0 i) ++ s ∷ []) (c.step.ensures k fs is)
+          ∙ sym (map-range_with_len_more (step_at k w fs) 0 i i (omega arith)),
     )

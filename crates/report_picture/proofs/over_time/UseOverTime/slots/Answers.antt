@@ -7,21 +7,22 @@ use Rattle.report_picture.proofs.over_time.UseOverTime.slots.Goals as goal
 
 pub rest_of-requires : goal.rest_of-requires
 rest_of-requires c =
-    let fs = c.requires.0 in
-    let is = c.requires.1 in
+    let k = c.requires.0 in
+    let fs = c.requires.1 in
+    let is = c.requires.2 in
     let u = c.args.self.now in (
-      use_in (frames_at u.width fs c.args.i),
+      use_in k (frames_at u.width fs c.args.i),
       elim c.if-behind-self.branch [
-        | then-behind-self w ↦ w.all-is ∙ rest-marked u fs is c.args.i _ _ w.if-behind-self.true c.requires.3
-        | else-behind-self w ↦ w.all-is ∙ rest-last u fs is c.args.i _ w.if-behind-self.false c.requires.3
+        | then-behind-self w ↦ w.all-is ∙ rest-marked k u fs is c.args.i _ _ w.if-behind-self.true c.requires.4
+        | else-behind-self w ↦ w.all-is ∙ rest-last k u fs is c.args.i _ w.if-behind-self.false c.requires.4
       ],
     )
 
 pub returns : goal.returns
-returns c = λ fs is.
+returns c = λ k fs is.
     let u = c.args.self.now in
     let i = c.args.i in
-    c.rest_of.ensures (use_in (frames_at u.width fs i)) (elim c.if-behind-self.branch [
-      | then-behind-self w ↦ w.all-is ∙ rest-marked u fs is i _ _ w.if-behind-self.true c.requires.3
-      | else-behind-self w ↦ w.all-is ∙ rest-last u fs is i _ w.if-behind-self.false c.requires.3
+    c.rest_of.ensures (use_in k (frames_at u.width fs i)) (elim c.if-behind-self.branch [
+      | then-behind-self w ↦ w.all-is ∙ rest-marked k u fs is i _ _ w.if-behind-self.true c.requires.4
+      | else-behind-self w ↦ w.all-is ∙ rest-last k u fs is i _ w.if-behind-self.false c.requires.4
     ])

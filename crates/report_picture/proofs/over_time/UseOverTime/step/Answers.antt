@@ -18,6 +18,6 @@ same_step first other last behind slots uses begins ends is =
 
 pub returns : goal.returns
 unfolding step_of
-returns c = λ fs is.
-    same_step _ _ _ _ _ _ (first-told c.args.self.now fs is c.args.i _ c.requires.3) (c.last.ensures fs is)
-    (c.slots.ensures fs is)
+returns c = λ k fs is.
+    same_step _ _ _ _ _ _ (first-told k c.args.self.now fs is c.args.i _ c.requires.4) (c.last.ensures k fs is)
+    (c.slots.ensures k fs is)

@@ -20,12 +20,14 @@ returns c =
     let end = c.push_flow_calls.new.words.items in
     let a = first_uses s (all_slots s) k in
     let b = last_uses s (all_slots s) k in
+    let d = last_calls c.args.opens s (all_slots s) k in
     then_ok r start first end (codes "\nuse              minislots       %        calls\n")
-    (a ++ (b ++ (last_calls k ++ flow_calls k)))
+    (a ++ (b ++ (d ++ flow_calls k)))
     c.in_ok-extend_from_slice.ensures.items
-    (then_ok r first second end a (b ++ (last_calls k ++ flow_calls k))
+    (then_ok r first second end a (b ++ (d ++ flow_calls k))
     (c.in_ok-push_first_uses.ensures ∙ ap (λ n. first ++ first_uses s n k) all)
-    (then_ok r second third end b (last_calls k ++ flow_calls k)
+    (then_ok r second third end b (d ++ flow_calls k)
     (c.in_ok-push_last_uses.ensures ∙ ap (λ n. second ++ last_uses s n k) all)
-    (then_ok r third fourth end (last_calls k) (flow_calls k) c.in_ok-push_last_calls.ensures
+    (then_ok r third fourth end d (flow_calls k)
+    (c.in_ok-push_last_calls.ensures ∙ ap (λ n. third ++ last_calls c.args.opens s n k) all)
     c.push_flow_calls.ensures)))

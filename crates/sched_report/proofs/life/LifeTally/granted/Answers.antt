@@ -15,7 +15,7 @@ returns-in-Unsolicited-clause-few c =
 pub returns-in-Unsolicited-clause-granted : goal.returns-in-Unsolicited-clause-granted
 returns-in-Unsolicited-clause-granted c = λ k life is.
     is.unsolicited
-    ∙ sym (ap (λ s. granted_under s (unsolicited_in life) (bytes_of (grants_since life.sid life.since)))
+    ∙ sym (ap (λ s. granted_under s (unsolicited_in k life) (bytes_of (grants_since life.sid life.since)))
     (sym is.spec ∙ c.in-Unsolicited.is))
 
 pub returns-in_default-clause-granted : goal.returns-in_default-clause-granted
@@ -23,5 +23,5 @@ returns-in_default-clause-granted c = λ k life is.
     c.from.ensures
     ∙ c.granted.ensures k (claims_of k life) (asked_in k life.sid life.since) (grants_since life.sid life.since)
     is.service
-    ∙ sym (granted_under-data (spec_of life) (unsolicited_in life) (bytes_of (grants_since life.sid life.since))
+    ∙ sym (granted_under-data (spec_of life) (unsolicited_in k life) (bytes_of (grants_since life.sid life.since))
     (λ size interval jitter grants same. c.in_default.not-Unsolicited size interval jitter grants (is.spec ∙ same)))

@@ -12,8 +12,8 @@ pub returns-clause-sums : goal.returns-clause-sums
 returns-clause-sums c = λ k ls l is asks are.
     let s = c.args.self.now in
     let sums = c.sums-sums.ensures.sums k l is in
-    let granted : granted_in l ≡ bytes_of (grants_since l.sid l.since) =
-    granted_under-asking (spec_of l) (unsolicited_in l) (bytes_of (grants_since l.sid l.since)) asks in
+    let granted : granted_in k l ≡ bytes_of (grants_since l.sid l.since) =
+    granted_under-asking (spec_of l) (unsolicited_in k l) (bytes_of (grants_since l.sid l.since)) asks in
     AreRankSums-push k s _ ls l are
     (omega (arith, c.from.ensures, sums.asks))
     (omega (arith, c.from-2.ensures, sums.granted, granted))

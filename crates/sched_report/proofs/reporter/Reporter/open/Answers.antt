@@ -16,7 +16,7 @@ invariant_of-result c =
       config = refl;
       legal = tt;
       told = rw c.in_ok-new.ensures.ok c.no_flows.ensures;
-      totals = c.none.ensures c.args.config;
+      totals = c.none.ensures;
       refused = record { places = refl; each = λ place below. get_or-replicate 23 place 0 0 below };
       lawful = c.start.ensures.lawful;
       next = omega (arith, c.start.ensures.value);

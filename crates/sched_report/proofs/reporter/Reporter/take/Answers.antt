@@ -1,5 +1,5 @@
 -- An entry that is taken is counted.
-use Rattle.std.proofs.Common.{◌≡◌, ◌<◌, ℕ, Bool, List, [], length, inl, inr, sym, ◌∙◌, subst}
+use Rattle.std.proofs.Common.{◌≡◌, ◌<◌, ℕ, Bool, List, [], length, inl, inr, sym, ap, ◌∙◌, subst}
 use Rattle.std.specs.Vec.{with_items}
 use Rattle.std.proofs.lemmas.List.{with_items_is}
 use Rattle.std.proofs.lemmas.Bool.{cases_lt}
@@ -8,6 +8,7 @@ use Rattle.map_build.proofs.EachAfterLaws.{EachAfter-push}
 use Rattle.sched_calls.specs.declared.reply.TheConstants.{MAX_WHOLE_HISTORY}
 use Rattle.sched_history.specs.History.{IsStep}
 use Rattle.sched_history.specs.Machine.{Past}
+use Rattle.sched_history.specs.Reserves.{met_after}
 use Rattle.frame_picture.specs.Frames.{TellsUnsolicited}
 use Rattle.sched_report.specs.Counted.{IsCounted}
 use Rattle.sched_report.specs.Reported.{IsReport}
@@ -33,6 +34,8 @@ follow-self-inside-requires-clause-may c =
         ];
         next = i.next;
         lives = c.reserve_for.ensures.same k (lives_of h) i.lives;
+        meets = c.as_slice-2.ensures.value ∙ c.in-Ok-met.ensures.met c.in_ok-judge.ensures.step
+            ∙ ap (λ (k : Config). met_after k h e.reply) (sym i.config);
       },
     )
 
@@ -51,15 +54,25 @@ invariant_of-self-2 c =
     ] in
     let at : (fs : List Bool) → fs ≡ c.self.inside.flows.value → TellsUnsolicited fs h = λ fs same.
     subst (λ (fs : List Bool). TellsUnsolicited fs h) (sym same) i.told in
-    let counted : IsCounted k h c.self.inside.totals c.deref-2.result.now e =
-    record { legal = i.legal; step = step; short = short; counted = i.totals; told = at _ c.deref-2.ensures } in
-    let follows : MayFollow k h c.reserve_for.new.lives.items c.self.inside.next e = record {
+    let meets : c.in-Ok-met.met.items ≡ met_after k h e.reply =
+    c.in-Ok-met.ensures.met c.in_ok-judge.ensures.step
+    ∙ ap (λ (k : Config). met_after k h e.reply) (sym i.config) in
+    let counted : IsCounted k h c.self.inside.totals c.deref-2.result.now c.as_slice.result.now e = record {
+      legal = i.legal;
+      step = step;
+      short = short;
+      counted = i.totals;
+      told = at _ c.deref-2.ensures;
+      meets = c.as_slice.ensures.value ∙ meets;
+    } in
+    let follows : MayFollow k h c.reserve_for.new.lives.items c.self.inside.next c.as_slice-2.result.now e = record {
       lawful = i.lawful;
       legal = i.legal;
       step = step;
       short = short;
       next = i.next;
       lives = c.reserve_for.ensures.same k (lives_of h) i.lives;
+      meets = c.as_slice-2.ensures.value ∙ meets;
     } in
     subst (λ (p : Past). IsReport k p c.note.new.flows c.add.new.self c.count_refusal.new.counts
     c.follow-self-inside.result c.follow-self-inside.new.lives.items
@@ -82,6 +95,22 @@ invariant_of-self-2 c =
 
 pub invariant_of-self : goal.invariant_of-self
 invariant_of-self c =
+    let i = c.self.invariant in
+    record {
+      config = i.config;
+      legal = i.legal;
+      told = i.told;
+      totals = i.totals;
+      refused = i.refused;
+      lawful = i.lawful;
+      next = i.next;
+      lives = c.reserve_for.ensures.same c.self.inside.config (lives_of c.self.inside.auditor.history) i.lives;
+      live = subst (λ (places : List ℕ). AreLive places c.reserve_for.new.lives.items) c.deref.ensures.value
+          c.reserve_for.ensures.live;
+    }
+
+pub invariant_of-self-in_default : goal.invariant_of-self-in_default
+invariant_of-self-in_default c =
     let i = c.self.invariant in
     record {
       config = i.config;

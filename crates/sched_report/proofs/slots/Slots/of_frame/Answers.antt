@@ -16,9 +16,9 @@ loop-i-preserved c =
     record {
       end = c.loop-i.invariant.end;
       value = λ h tells. slots-more es i c.loop-i.slots c.with-slots.result a kind long
-          c.allocation_at-allocation.ensures c.from-in-loop-i.ensures c.with-slots.ensures c.args.flows.now
-          (omega arith)
-          (rw c.from.ensures at c.of-kind.ensures) h tells (c.loop-i.invariant.value h tells);
+          c.allocation_at-allocation.ensures c.from-in-loop-i.ensures c.with-slots.ensures c.args.met.now
+          c.args.flows.now (omega arith) (rw c.meets_at.ensures at (rw c.from.ensures at c.of-kind.ensures)) h tells
+          (c.loop-i.invariant.value h tells);
       all = all_slots-more es i c.loop-i.slots c.with-slots.result a kind long c.allocation_at-allocation.ensures
           c.from-in-loop-i.ensures c.with-slots.ensures c.requires.one_null c.requires.ascends inside
           c.loop-i.invariant.all;

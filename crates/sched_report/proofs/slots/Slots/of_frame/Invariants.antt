@@ -12,6 +12,6 @@ abbrev pub invariant-loop-i : goal.invariant-loop-i
 invariant-loop-i l = record {
   end : l.i-end ≡ front_length l.elements;
   value : (h : List Entry) → TellsUnsolicited l.flows h
-      → l.slots ≡ slots_among (is_unsolicited_after h) (first_allocations l.elements l.i);
+      → l.slots ≡ slots_among l.met (is_unsolicited_after h) (first_allocations l.elements l.i);
   all : all_slots l.slots ≤ (element_at l.elements l.i).offset;
 }

@@ -1,14 +1,30 @@
 -- One entry more is counted.
-use Rattle.std.proofs.Common.{◌≡◌, ◌+◌, ap, subst, refl, arith}
+use Rattle.std.proofs.Common.{◌≡◌, ◌+◌, List, ap, ◌∙◌, subst, refl, arith}
+use Rattle.map_build.specs.declared.met.Met.{Met}
+use Rattle.map_drawing.specs.Allocation.{allocations_of}
 use Rattle.sched_calls.specs.declared.reply.Reply.{Reply}
 use Rattle.sched_history.specs.History.{IsStep, map_by}
+use Rattle.sched_history.specs.Reserves.{met_after}
 use Rattle.sched_history.proofs.steps.LegalHistories.{IsNextMap-from_step}
+use Rattle.frame_picture.specs.Frames.{is_unsolicited_after}
 use Rattle.sched_report.specs.declared.totals.Totals.{Totals}
-use Rattle.sched_report.specs.Uses.{slots_in}
+use Rattle.sched_report.specs.Uses.{slots_in, slots_among}
 use Rattle.sched_report.specs.Totals.{with_frame}
-use Rattle.sched_report.proofs.Frames.{of_next_frame}
+use Rattle.sched_report.proofs.Frames.{of_next_frame, next_start-most}
 use Rattle.sched_report.proofs.Totalled.{AreTotals-built, AreTotals-unbuilt, neither}
 use Rattle.sched_report.proofs.totals.Totals.add.Goals as goal
+
+pub add_frame-requires-clause-start : goal.add_frame-requires-clause-start
+add_frame-requires-clause-start c =
+    let k = c.args.config.now in
+    let h = c.requires.0 in
+    let e = c.args.entry.now in
+    omega (
+      arith,
+      next_start-most k c.frame-frame.ensures.lawful h c.in-Built.map c.requires.1.legal
+          (IsNextMap-from_step k h e.call c.in-Built.map
+          (subst (λ (r : Reply). IsStep k h e.call r) c.in-Built.is c.requires.1.step)),
+    )
 
 pub add_frame-requires-clause-elements : goal.add_frame-requires-clause-elements
 add_frame-requires-clause-elements c =
@@ -21,16 +37,21 @@ add_frame-requires-clause-elements c =
 
 pub returns-in-Built : goal.returns-in-Built
 returns-in-Built c = λ h counted.
+    let k = c.args.config.now in
     let t = c.args.self.now in
     let m = c.in-Built.map in
     let calls = c.add.ensures h (ap (λ (t : Totals). t.calls) counted.counted.value) in
     let replaces = t.replaces + c.replacements_in.result in
     let new = c.add_frame.new.self in
-    AreTotals-built c.args.config.now h c.args.entry.now t c.add.new.self replaces counted.counted calls
+    AreTotals-built k h c.args.entry.now t c.add.new.self replaces counted.counted calls
     (ap (λ n. t.replaces + n) c.replacements_in.ensures) m new c.in-Built.is
     (subst (λ frame. new ≡ with_frame frame (record t { calls = c.add.new.self; replaces = replaces }) m
-    (slots_in (record { before = h; built = m }))) c.frame-frame.ensures.value
-    (c.add_frame.ensures.value h counted.told))
+    (slots_in k (record { before = h; built = m }))) c.frame-frame.ensures.value
+    (subst (λ (met : List Met). new ≡ with_frame c.frame-frame.result
+    (record t { calls = c.add.new.self; replaces = replaces }) m
+    (slots_among met (is_unsolicited_after h) (allocations_of m.wire.elements)))
+    (counted.meets ∙ ap (met_after k h) c.in-Built.is)
+    (c.add_frame.ensures.value h counted.told)))
     c.add_frame.ensures.bounded
 
 pub returns-in-Skipped : goal.returns-in-Skipped

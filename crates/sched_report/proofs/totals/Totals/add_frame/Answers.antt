@@ -13,4 +13,6 @@ returns-clause-value c = λ h told.
     refl
     (c.and-self.ensures
     ∙ ap (sum_of c.args.self.now.slots) (c.of_frame-slots.ensures.value h told
-    ∙ ap (λ (es : List Element). slots_among (is_unsolicited_after h) (allocations_of es)) c.as_slice.ensures))
+    ∙ ap (λ (es : List Element). slots_among c.args.met.now (is_unsolicited_after h) (allocations_of es))
+    c.as_slice.ensures))
+    refl

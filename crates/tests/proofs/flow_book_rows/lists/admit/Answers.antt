@@ -1,6 +1,6 @@
 -- A new flow has no grants.
 use Rattle.flow_book.specs.Choice.{HasStartedBy}
-use Rattle.flow_book.proofs.Insertion.{all-put_in}
+use Rattle.sched_calls.proofs.Insertion.{all-put_in}
 use Rattle.tests.proofs.flow_book_rows.lists.admit.Goals as goal
 
 pub returns : goal.returns

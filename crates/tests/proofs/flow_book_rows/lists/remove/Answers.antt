@@ -1,6 +1,6 @@
 -- The flows that are left are as before.
 use Rattle.flow_book.specs.Choice.{HasStartedBy}
-use Rattle.flow_book.proofs.Removal.{all-filter}
+use Rattle.sched_calls.proofs.Removal.{all-filter}
 use Rattle.tests.proofs.flow_book_rows.lists.remove.Goals as goal
 
 pub returns : goal.returns

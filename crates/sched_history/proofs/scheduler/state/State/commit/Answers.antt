@@ -1,7 +1,9 @@
 -- The next frame is described.
-use Rattle.std.proofs.Common.{refl, sym, ap, ◌∙◌}
+use Rattle.std.proofs.Common.{refl, sym, ap, ◌∙◌, if◌then◌else◌}
 use Rattle.sched_history.specs.Reserves.{aged, unmarked}
+use Rattle.sched_history.proofs.time.NextFrames.{next_start}
 use Rattle.sched_history.proofs.state.Moves.{IsStateAfter-built}
+use Rattle.sched_history.proofs.state.Building.{reserves-behind}
 use Rattle.sched_history.proofs.scheduler.state.State.commit.Goals as goal
 
 pub take_in-requires-clause-config : goal.take_in-requires-clause-config
@@ -18,7 +20,10 @@ returns-clause-answered c = λ now h opens fits.
       config = refl;
       answers = (p.map, fits.lawful, refl);
       encodable = fits.encodable;
-      is_after = λ stamp. IsStateAfter-built s h opens.is_after stamp now p.map c.take_in.new.self c.age.new.self
+      is_after = λ stamp. IsStateAfter-built s h opens.is_after stamp now p.map c.take_in.new.self c.follow.new.self
+          c.follow-2.new.self
           (c.take_in.ensures.config ∙ opens.is_after.book_config) (c.take_in.ensures.flows ∙ fits.flows stamp)
-          (c.age.ensures ∙ ap (λ rs. aged (unmarked p.met rs)) opens.is_after.reserves ∙ fits.reserves stamp);
+          (c.follow.ensures ∙ ap (λ b. if b then s.reserves else aged (unmarked p.met s.reserves)) c.settles-settles.ensures
+          ∙ reserves-behind s h opens.is_after opens.legal p.met ∙ fits.reserves stamp)
+          (next_start s.config h p.map fits.lawful ∙ sym opens.is_after.next) c.follow-2.ensures;
     })

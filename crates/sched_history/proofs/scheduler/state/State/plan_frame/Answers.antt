@@ -1,8 +1,8 @@
 -- The MAP of the next frame, from what is kept.
 use Rattle.std.proofs.Common.{◌∙◌, sym, subst}
-use Rattle.map_build.specs.Opportunities.{HaveStationSids, MayWait}
+use Rattle.map_build.specs.Opportunities.{HaveElementSids, MayWait}
 use Rattle.sched_history.specs.Reserves.{waiting_in}
-use Rattle.sched_history.proofs.reserves.GoodReserves.{MayWait-legal, HaveStationSids-legal}
+use Rattle.sched_history.proofs.reserves.GoodReserves.{MayWait-legal, HaveElementSids-legal}
 use Rattle.sched_history.proofs.state.Building.{AreOfChannel-after, ArePeriodicOf-after, IsNextMap-after}
 use Rattle.sched_history.proofs.state.Building.{IsLawfulMap-after, flows_of-planned, reserves_of-planned}
 use Rattle.sched_history.proofs.scheduler.state.State.plan_frame.Goals as goal
@@ -26,8 +26,8 @@ plan_next-requires-clause-waiting c =
 pub plan_next-requires-clause-stations : goal.plan_next-requires-clause-stations
 plan_next-requires-clause-stations c =
     let opens = c.requires.2 in
-    subst (λ rs. HaveStationSids (waiting_in rs)) (sym opens.is_after.reserves)
-    (HaveStationSids-legal c.args.self.now.config c.requires.1 opens.legal)
+    subst (λ rs. HaveElementSids (waiting_in rs)) (sym opens.is_after.reserves)
+    (HaveElementSids-legal c.args.self.now.config c.requires.1 opens.legal)
 
 pub returns-clause-fits : goal.returns-clause-fits
 returns-clause-fits c = λ now h opens.
@@ -35,14 +35,14 @@ returns-clause-fits c = λ now h opens.
     let p = c.in_ok-frame.frame in
     let frame = c.in_ok-frame.ensures.lawful in
     record {
-      lawful = IsNextMap-after s h opens.is_after p.map (frame.plan, frame.is_plan, frame.map);
+      lawful = IsNextMap-after s h opens.is_after opens.legal p.map (frame.plan, frame.is_plan, frame.map);
       encodable = c.in_ok-frame.ensures.encodable;
       config = c.in_ok-frame.ensures.config;
       before = frame.before ∙ opens.is_after.flows;
       flows = λ stamp. flows_of-planned s h opens.is_after stamp now p frame;
-      reserves = λ stamp. reserves_of-planned s h opens.is_after stamp now p frame;
+      reserves = λ stamp. reserves_of-planned s h opens.is_after stamp now p frame opens.legal;
     }
 
 pub returns-clause-only : goal.returns-clause-only
 returns-clause-only c = λ now h opens n next.
-    c.in_ok-frame.ensures.only n (IsLawfulMap-after c.args.self.now h opens.is_after n next)
+    c.in_ok-frame.ensures.only n (IsLawfulMap-after c.args.self.now h opens.is_after opens.legal n next)
