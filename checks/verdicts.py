@@ -119,6 +119,13 @@ def texts_of(folder):
     return digest(functions.files_below(folder, "src"), functions.files_below(folder, "specs"))
 
 
+def stamps_of(folder):
+    """What is another where a text of a crate that those above it may see was changed, and be it back, or is gone."""
+    walked = [it for part in ("src", "specs") for it in os.walk(f"{folder}/{part}")]
+    found = [(path, os.stat(path)) for at, _, names in walked for path in [f"{at}/{it}" for it in names]]
+    return sorted((path, it.st_ino, it.st_size, it.st_mtime_ns, it.st_ctime_ns) for path, it in found)
+
+
 class Lines:
     """A file with a line for each name and a digest of it, written at once. After a merge a name may have several."""
 
@@ -154,7 +161,8 @@ class Grounds:
         self.stands_on, self.toolchain = kit.crates(), kit.version()
         folders = {it: f"{HERE}/crates/{it}" for it in self.stands_on}
         self.sources = {it: Sources(folder) for it, folder in folders.items()}
-        self.texts = {it: texts_of(folder) for it, folder in folders.items()}
+        self.read = {}
+        self.texts = {it: self.texts_in(folder) for it, folder in folders.items()}
         self.seen = {it: self.seen_in(it) for it in self.stands_on}
 
     def seen_in(self, name):
@@ -163,11 +171,18 @@ class Grounds:
         statements = [(it, self.stands_on[it], at.specs, at.from_above) for it, at in below]
         return digest(WAY, self.toolchain, name, self.stands_on[name], self.sources[name].specs, statements)
 
+    def texts_in(self, folder):
+        """The digest of the texts of a crate that those above it may see, read again where they may have changed."""
+        stamps = stamps_of(folder)
+        if self.read.get(folder, ((), ""))[0] != stamps:
+            self.read[folder] = stamps, texts_of(folder)
+        return self.read[folder][1]
+
     def changed(self, name, built):
         """The crates whose texts are not those that digests were made of: a crate here, and those below it, here or in
         the folder where they were built."""
         places = [(it, at) for it in sorted(kit.below_of(name, self.stands_on)) for at in {HERE, built}]
-        return {it for it, at in [(name, HERE), *places] if texts_of(f"{at}/crates/{it}") != self.texts[it]}
+        return {it for it, at in [(name, HERE), *places] if self.texts_in(f"{at}/crates/{it}") != self.texts[it]}
 
     def together(self, name, edit):
         """The digest of a verdict at the functions that a wrong body changes."""
