@@ -1,5 +1,6 @@
 """The functions of a crate by the prover's names, as a text tells them, and what stands in for a function's proof."""
 
+import functools
 import itertools
 import os
 import re
@@ -29,9 +30,15 @@ def text_of(folder, file):
     return read(f"{folder}/{file}") if os.path.isfile(f"{folder}/{file}") else ""
 
 
+@functools.cache
+def heads_in(text):
+    """The heads of the functions of a text, as FUNCTION finds them."""
+    return list(FUNCTION.finditer(text))
+
+
 def function_round(text, start, end):
     """The function round a place in a text, as FUNCTION finds it, or None where there is none."""
-    above = list(itertools.takewhile(lambda it: it.start() < end, FUNCTION.finditer(text)))
+    above = list(itertools.takewhile(lambda it: it.start() < end, heads_in(text)))
     # A function ends at the first brace that closes in its own column.
     if start < 0 or not above or re.search(rf"^{above[-1][1]}}}", text[above[-1].end() : start], re.M):
         return None
