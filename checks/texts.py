@@ -161,6 +161,13 @@ def fault_in_json(fault, words, **more):
     return line_in_json(told | {"words": words} | more)
 
 
+def verdict_in_json(line, **more):
+    """The line of JSON for the line of a verdict of `audit`, and with these members more."""
+    verdict, number = line.split()
+    told = {"entries": int(number), "legal": True} if verdict == "legal" else {"illegal": int(number), "legal": False}
+    return line_in_json(told | more)
+
+
 def script_of(config, calls):
     return f'{{"config":{config},"calls":[{calls}]}}'
 

@@ -1,2 +1,3 @@
 pub mod Verdict
+pub mod VerdictJson
 pub mod JournalAudit

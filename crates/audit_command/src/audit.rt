@@ -4,9 +4,12 @@ ghost use Rattle.std.specs.Prelude.{◌≡◌, ◌≤◌, length, IfOk, IfErr};
 ghost use Rattle.sched_calls.specs.declared.reply.TheConstants.{MAX_ENTRIES};
 ghost use Rattle.text_stream.specs.Writing.{Writes};
 ghost use Rattle.text_stream.specs.RunFault.{TellsFailedRead, TellsFailedWrite, WritesLast};
-ghost use Rattle.audit_command.specs.Verdict.{IsVerdict, is_legal, verdict_line, Audited, StopsAudit};
+ghost use Rattle.audit_command.specs.Verdict.{IsVerdict, is_legal, legal_text, illegal_text, verdict_line};
+ghost use Rattle.audit_command.specs.Verdict.{Audited, StopsAudit};
 
 use crate::explained_audit::explain;
+use crate::form::AuditForm;
+use crate::json::{put_illegal_json, put_legal_json};
 use history_reading::read_history;
 use minislots::Checked;
 use sched_history::{AuditFault, Entry, audit};
@@ -36,19 +39,45 @@ fn judge(alloc: Global, config: &Checked, entries: &[Entry]) -> Result<Verdict, 
     }
 }
 
+// Writes the verdict on a legal history.
+fn put_legal<W: Sink>(writer: &mut W, form: AuditForm, entries: u64) -> Result<(), TextFault>
+    ensures { Writes W.contents W.has_failed writer.old writer.new
+        (legal_text form entries) result }
+{
+    match form {
+        AuditForm::Line | AuditForm::Explained => put_named(writer, b"legal", entries),
+        AuditForm::Json => put_legal_json(writer, entries),
+    }
+}
+
+// Writes the verdict on another one.
+fn put_illegal<W: Sink>(writer: &mut W, form: AuditForm, index: u64) -> Result<(), TextFault>
+    ensures { Writes W.contents W.has_failed writer.old writer.new
+        (illegal_text form index) result }
+{
+    match form {
+        AuditForm::Line | AuditForm::Explained => put_named(writer, b"illegal", index),
+        AuditForm::Json => put_illegal_json(writer, index),
+    }
+}
+
 // Writes the line of a verdict, and tells whether it is that of a legal history.
-fn put_verdict<W: Sink>(writer: &mut W, verdict: Verdict) -> Result<bool, TextFault>
+fn put_verdict<W: Sink>(
+    writer: &mut W,
+    form: AuditForm,
+    verdict: Verdict,
+) -> Result<bool, TextFault>
     ensures written { Writes W.contents W.has_failed writer.old writer.new
-        (verdict_line verdict) result }
+        (verdict_line form verdict) result }
     ensures legal { IfOk result (λ legal. legal ≡ is_legal verdict) }
 {
     match verdict {
         Verdict::Legal(entries) => {
-            put_named(writer, b"legal", entries as u64)?;
+            put_legal(writer, form, entries as u64)?;
             Ok(true)
         }
         Verdict::Illegal(index) => {
-            put_named(writer, b"illegal", index as u64)?;
+            put_illegal(writer, form, index as u64)?;
             Ok(false)
         }
     }
@@ -56,19 +85,19 @@ fn put_verdict<W: Sink>(writer: &mut W, verdict: Verdict) -> Result<bool, TextFa
 
 /// Reads a history, a configuration and entries in JSON, to the reader's end, and audits it. Writes `legal` and the
 /// number of its entries, or `illegal` and the first entry, counted from 0, whose reply the scheduler may not give
-/// after the entries before it. Where that is asked for, behind the line of an illegal history stand the call of the
-/// entry, the reply that it has, and one that the scheduler may give there; a MAP is shown as its table, and the first
-/// lines in which the two replies differ are marked. Answers whether it is legal. Nothing is written before another
-/// fault than one of output.
+/// after the entries before it; or the same in JSON. Where words are asked for, behind the line of an illegal history
+/// stand the call of the entry, the reply that it has, and one that the scheduler may give there; a MAP is shown as its
+/// table, and the first lines in which the two replies differ are marked. Answers whether it is legal. Nothing is
+/// written before another fault than one of output.
 pub fn run_audit<R: Source, W: Sink>(
     alloc: Global,
     reader: &mut R,
     writer: &mut W,
-    is_explained: bool,
+    form: AuditForm,
 ) -> Result<bool, RunFault>
-    // What was written is the line of the verdict on the history that was read, with words behind it where they are
-    // asked for and it is illegal, and nothing else.
-    ensures ok { IfOk result (Audited is_explained (R.remaining reader.old) (R.remaining reader.new)
+    // What was written is the line of the verdict on the history that was read, in this form, with words behind it
+    // where they are asked for and it is illegal, and nothing else.
+    ensures ok { IfOk result (Audited form (R.remaining reader.old) (R.remaining reader.new)
         (W.contents writer.old) (W.contents writer.new)) }
 
     // Each fault comes under its own condition, the first one in their order.
@@ -83,10 +112,10 @@ pub fn run_audit<R: Source, W: Sink>(
 {
     let (config, entries) = read_history(alloc, reader)?;
     let verdict = judge(alloc, &config, &entries)?;
-    let Ok(words) = explain(alloc, &config, &entries, verdict, is_explained) else {
+    let Ok(words) = explain(alloc, &config, &entries, verdict, form) else {
         return Err(RunFault::Text(TextFault::Memory));
     };
-    let legal = put_verdict(writer, verdict)?;
+    let legal = put_verdict(writer, form, verdict)?;
     put(writer, words.as_bytes())?;
     Ok(legal)
 }

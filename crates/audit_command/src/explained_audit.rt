@@ -7,6 +7,7 @@ ghost use Rattle.audit_command.specs.Verdict.{IsVerdict, IsQuiet};
 mod words;
 
 use crate::audit::Verdict;
+use crate::form::AuditForm;
 use minislots::Checked;
 use sched_history::{Entry, lawful_reply};
 use std::alloc::{AllocError, Global};
@@ -18,14 +19,14 @@ pub(crate) fn explain(
     config: &Checked,
     entries: &[Entry],
     verdict: Verdict,
-    is_explained: bool,
+    form: AuditForm,
 ) -> Result<String, AllocError>
     requires few { length entries.now ≤ MAX_ENTRIES }
     requires judged { IsVerdict config.now entries.now verdict }
-    ensures { IfOk result (λ words. IsQuiet is_explained verdict (string_bytes words)) }
+    ensures { IfOk result (λ words. IsQuiet form verdict (string_bytes words)) }
 {
-    match verdict {
-        Verdict::Illegal(index) if is_explained => {
+    match (form, verdict) {
+        (AuditForm::Explained, Verdict::Illegal(index)) => {
             let entry = &entries[index];
             let lawful = lawful_reply(alloc, config, &entries[..index], entry.call)?;
             words_on(alloc, index, entry, &lawful)

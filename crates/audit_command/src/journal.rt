@@ -1,13 +1,17 @@
 //! The audit of a journal, line by line, to the line of its verdict.
 
 ghost use Rattle.std.specs.Prelude.{IfOk, IfErr};
+ghost use Rattle.text_stream.specs.Writing.{Writes};
 ghost use Rattle.text_stream.specs.RunFault.{TellsFailedRead, TellsFailedWrite, WritesLast};
 ghost use Rattle.audit_command.specs.JournalAudit.{AuditedJournal, StopsJournalAudit};
+ghost use Rattle.audit_command.specs.JournalAudit.{legal_journal_text, illegal_journal_text};
 
+use crate::form::JournalForm;
+use crate::json::{put_illegal_json, put_legal_journal_json};
 use journal_entries::{Judged, judge_journal};
 use sched_lines::put_named;
 use std::alloc::Global;
-use text_stream::{RunFault, Sink, Source};
+use text_stream::{RunFault, Sink, Source, TextFault};
 
 /// How the audit of a journal ends.
 #[derive(Clone, Copy, Debug, PartialEq, Eq)]
@@ -21,17 +25,45 @@ pub enum JournalEnd {
     Bad(u64),
 }
 
+// Writes the verdict on a legal journal.
+fn put_legal<W: Sink>(
+    writer: &mut W,
+    form: JournalForm,
+    entries: u64,
+    torn: u64,
+) -> Result<(), TextFault>
+    ensures { Writes W.contents W.has_failed writer.old writer.new
+        (legal_journal_text form entries torn) result }
+{
+    match form {
+        JournalForm::Line => put_named(writer, b"legal", entries),
+        JournalForm::Json => put_legal_journal_json(writer, entries, torn),
+    }
+}
+
+// Writes the verdict on another one.
+fn put_illegal<W: Sink>(writer: &mut W, form: JournalForm, index: u64) -> Result<(), TextFault>
+    ensures { Writes W.contents W.has_failed writer.old writer.new
+        (illegal_journal_text form index) result }
+{
+    match form {
+        JournalForm::Line => put_named(writer, b"illegal", index),
+        JournalForm::Json => put_illegal_json(writer, index),
+    }
+}
+
 /// Reads a journal, of any length, and audits it in the memory of a scheduler's state and of one line. Writes `legal`
 /// and the number of its entries, or `illegal` and the first entry, counted from 0, whose reply the scheduler may not
-/// give after the entries before it. Nothing is written where a line is bad, nor before another fault than one of
-/// output.
+/// give after the entries before it; or the same in JSON, of a legal one with the bytes behind its last newline.
+/// Nothing is written where a line is bad, nor before another fault than one of output.
 pub fn run_audit_journal<R: Source, W: Sink>(
     alloc: Global,
     reader: &mut R,
     writer: &mut W,
+    form: JournalForm,
 ) -> Result<JournalEnd, RunFault>
     // What was written is the line of the verdict on the journal that was read, and nothing else.
-    ensures ok { IfOk result (AuditedJournal (R.remaining reader.old) (R.remaining reader.new)
+    ensures ok { IfOk result (AuditedJournal form (R.remaining reader.old) (R.remaining reader.new)
         (W.contents writer.old) (W.contents writer.new)) }
 
     // Each fault comes under its own condition.
@@ -47,11 +79,11 @@ pub fn run_audit_journal<R: Source, W: Sink>(
 {
     match judge_journal(alloc, reader)? {
         Judged::Legal(auditor, torn) => {
-            put_named(writer, b"legal", auditor.taken())?;
+            put_legal(writer, form, auditor.taken(), torn)?;
             Ok(JournalEnd::Legal(torn))
         }
         Judged::Illegal(index) => {
-            put_named(writer, b"illegal", index)?;
+            put_illegal(writer, form, index)?;
             Ok(JournalEnd::Illegal)
         }
         Judged::Bad(line) => Ok(JournalEnd::Bad(line)),

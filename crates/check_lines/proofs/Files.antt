@@ -8,6 +8,7 @@ use Rattle.text_stream.specs.declared.run_fault.RunFault.{RunFault}
 use Rattle.text_stream.specs.declared.run_fault.RunFault.TheVariants.{Text}
 use Rattle.check_lines.specs.declared.front.TheConstants.{FRONT}
 use Rattle.check_lines.specs.declared.front.Front.{Front}
+use Rattle.check_lines.specs.declared.form.CheckForm.{CheckForm}
 use Rattle.check_lines.specs.declared.kind.FileKind.{FileKind}
 use Rattle.check_lines.specs.declared.verdict.Verdict.{Verdict}
 use Rattle.check_lines.specs.Front.{unread_of, at_hand, IsLookedAt, IsFront}
@@ -26,10 +27,10 @@ pub unwritten : (fault : TextFault) → (fault ≡ Input) ⊎ (fault ≡ Memory)
 unwritten fault (inl is) output = (let no : Text Input ≡ Text Output = ap Text (sym is) ∙ output in cc)
 unwritten fault (inr is) output = (let no : Text Memory ≡ Text Output = ap Text (sym is) ∙ output in cc)
 
-module _ {R : Type 0} (remaining : R → Option (List ℕ)) (looked : Front R) (unread left : Option (List ℕ))
-    (front : List ℕ) (kind : FileKind) (same : Keeps unread (unread_of remaining looked))
-    (is_looked : IsLookedAt remaining looked) (front_is : front ≡ take FRONT (at_hand looked))
-    (kind_is : kind ≡ kind_of_front front) where
+module _ (form : CheckForm) {R : Type 0} (remaining : R → Option (List ℕ)) (looked : Front R)
+    (unread left : Option (List ℕ)) (front : List ℕ) (kind : FileKind)
+    (same : Keeps unread (unread_of remaining looked)) (is_looked : IsLookedAt remaining looked)
+    (front_is : front ≡ take FRONT (at_hand looked)) (kind_is : kind ≡ kind_of_front front) where
   is_front : IsFront (unread_of remaining looked) front
   is_front =
       subst (IsFront (unread_of remaining looked)) (sym front_is)
@@ -37,14 +38,15 @@ module _ {R : Type 0} (remaining : R → Option (List ℕ)) (looked : Front R) (
 
   -- they were, and the file was checked as that kind
   pub ChecksAny-as : (before after : Option (List ℕ)) (r : Result Verdict RunFault)
-      → IfOk r (ChecksAs kind (unread_of remaining looked) left before after)
-      → IfOk r (ChecksAny unread left before after)
+      → IfOk r (ChecksAs form kind (unread_of remaining looked) left before after)
+      → IfOk r (ChecksAny form unread left before after)
   ChecksAny-as before after (Ok found) checks = record {
     text = unread_of remaining looked;
     same = same;
     front = front;
     is_front = is_front;
-    checks = subst (λ (k : FileKind). ChecksAs k (unread_of remaining looked) left before after found) kind_is checks;
+    checks = subst (λ (k : FileKind). ChecksAs form k (unread_of remaining looked) left before after found) kind_is
+        checks;
   }
   ChecksAny-as before after (Err fault) checks = tt
 

@@ -4,6 +4,7 @@ mod Failing
 mod Fronts
 mod FirstLines
 mod Openings
+mod Behind
 mod Talks
 mod Lives
 mod Files

@@ -1,10 +1,10 @@
 -- What was heard of the lines behind an opening.
-use Rattle.std.proofs.Common.{◌≡◌, ℕ, ◌+◌, ◌-◌, ◌^◌, ◌<◌, ◌≤◌, List, [], ◌∷◌, ◌++◌, length, take}
-use Rattle.std.proofs.Common.{Option, None, Some, Result, Ok, Err, refl, sym, ap, subst, ◌∙◌, inl, inr}
+use Rattle.std.proofs.Common.{◌≡◌, ℕ, ◌+◌, ◌-◌, ◌^◌, ◌<◌, ◌≤◌, List, [], ◌∷◌, ◌++◌, length, map, take}
+use Rattle.std.proofs.Common.{Option, None, Some, Result, Ok, Err, refl, sym, ap, ap₂, subst, ◌∙◌, inl, inr}
 use Rattle.std.proofs.Common.{append_assoc, arith, length-append}
 use Rattle.std.specs.Prelude.{◌⊎◌, if◌then◌else◌}
 use Rattle.std.proofs.lemmas.Bool.{cases_lt}
-use Rattle.std.proofs.lemmas.List.{append-nil, take_all, take-append-le}
+use Rattle.std.proofs.lemmas.List.{append-nil, map-append, take_all, take-append-le}
 use Rattle.std.proofs.lemmas.List.Elements.{filter-append}
 use Rattle.sched_calls.specs.declared.call.Call.{Call}
 use Rattle.text_stream.specs.declared.Told.{Told}
@@ -14,27 +14,11 @@ use Rattle.live_command.specs.Spoken.{heard_of}
 use Rattle.live_command.proofs.Talking.{TakesLines-none, TakesLines-trans, TakesLines-front, TakesLines-all}
 use Rattle.check_lines.specs.declared.live.TheConstants.{MOST}
 use Rattle.check_lines.specs.declared.live.Conversation.{Conversation}
-use Rattle.check_lines.specs.Bad.{BadLine, bad_heard, bad_lines, is_call_heard, call_lines}
-use Rattle.check_lines.specs.Text.{bad_line_text}
-use Rattle.check_lines.specs.Live.{TellsEach, Counts, HearsEach, HearsBad, Hears, HearsSoFar, HearsAll}
+use Rattle.check_lines.specs.declared.told_line.ToldLine.{ToldLine}
+use Rattle.check_lines.specs.Bad.{BadLine, bad_of, bad_heard, bad_lines, is_call_heard, call_lines}
+use Rattle.check_lines.specs.Live.{Counts, HearsEach, HearsBad, Hears, HearsSoFar, HearsAll}
 use Rattle.check_lines.specs.Opening.{HasTooManyLines}
 use Rattle.check_lines.proofs.Openings.{TakesLines-ended}
-
--- one bad line more is told
-TellsEach-push : (bads : List BadLine) (bad : BadLine) (text words : List ℕ) → TellsEach bads text
-    → TellsEach (bads ++ bad ∷ []) (text ++ (bad_line_text bad ++ words))
-TellsEach-push [] bad text words told =
-    let none : text ≡ [] = told in
-    (words, [], rw none (ap (λ (l : List ℕ). bad_line_text bad ++ l) (sym (append-nil words))), refl)
-TellsEach-push (b ∷ bads) bad text words told =
-    let line = bad_line_text bad ++ words in
-    let first = bad_line_text b in (
-      told.0,
-      told.1 ++ line,
-      ap (λ (l : List ℕ). l ++ line) told.2 ∙ append_assoc first (told.0 ++ told.1) line
-          ∙ ap (λ (l : List ℕ). first ++ l) (append_assoc told.0 told.1 line),
-      TellsEach-push bads bad told.1 words told.3,
-    )
 
 -- what is bad among lines and one more
 bad_lines-push : (n k : ℕ) (lines : List (List ℕ)) (line : List ℕ) → k ≡ n + length lines + 1
@@ -72,27 +56,23 @@ counts-few n (line ∷ lines) =
 
 -- what is told where one bad line more was heard
 told-push : (k : ℕ) (fault : LineFault) (bads : List BadLine) (old new : Conversation)
-    → old.bad ≡ length bads → TellsEach (take MOST bads) old.told.items → HearsBad k fault old new
+    → old.bad ≡ length bads → map bad_of old.told.items ≡ take MOST bads → HearsBad k fault old new
     → (old.bad < MOST) ⊎ (MOST ≤ old.bad)
-    → TellsEach (take MOST (bads ++ (record { number = k; fault = fault }) ∷ [])) new.told.items
+    → map bad_of new.told.items ≡ take MOST (bads ++ (record { number = k; fault = fault }) ∷ [])
 told-push k fault bads old new count told hears (inl few) =
     let bad : BadLine = record { number = k; fault = fault } in
     let more : length (bads ++ bad ∷ []) ≡ length bads + 1 = length-append bads (bad ∷ []) in
     let short : length bads ≤ MOST = omega (arith, few, count) in
     let one_more : length (bads ++ bad ∷ []) ≤ MOST = omega (arith, few, count, more) in
-    let all : TellsEach bads old.told.items =
-    subst (λ (l : List BadLine). TellsEach l old.told.items) (take_all MOST bads short) told in
     let line = hears.told_is few in
-    let now : TellsEach (bads ++ bad ∷ []) new.told.items =
-    subst (TellsEach (bads ++ bad ∷ [])) (sym line.1) (TellsEach-push bads bad old.told.items line.0 all) in
-    subst (λ (l : List BadLine). TellsEach l new.told.items) (sym (take_all MOST (bads ++ bad ∷ []) one_more)) now
+    ap (λ (l : List ToldLine). map bad_of l) line.2 ∙ map-append bad_of old.told.items (line.0 ∷ [])
+    ∙ ap₂ (λ (a : List BadLine) (b : BadLine). a ++ b ∷ []) (told ∙ take_all MOST bads short) line.1
+    ∙ sym (take_all MOST (bads ++ bad ∷ []) one_more)
 told-push k fault bads old new count told hears (inr many) =
     let bad : BadLine = record { number = k; fault = fault } in
     let full : MOST ≤ length bads = omega (arith, many, count) in
     let same : take MOST (bads ++ bad ∷ []) ≡ take MOST bads = take-append-le MOST bads (bad ∷ []) full in
-    let now : TellsEach (take MOST bads) new.told.items =
-    subst (TellsEach (take MOST bads)) (sym (hears.untold many)) told in
-    subst (λ (l : List BadLine). TellsEach l new.told.items) (sym same) now
+    ap (λ (l : List ToldLine). map bad_of l) (hears.untold many) ∙ told ∙ sym same
 
 -- one line more was heard
 Counts-push : (k : ℕ) (heard : Option (Result Call LineFault)) (line : List ℕ) (calls : List (List ℕ))
@@ -134,7 +114,7 @@ HearsSoFar-none passed unread talk calls bad told = record {
   lines = [];
   read = TakesLines-none unread;
   number_is = omega arith;
-  hears = record { calls_are = calls; bad_is = bad; told_are = told };
+  hears = record { calls_are = calls; bad_is = bad; told_are = ap (λ (l : List ToldLine). map bad_of l) told };
 }
 
 module _ (passed number : ℕ) (unread mid : Option (List ℕ)) (talk : Conversation)

@@ -4,11 +4,16 @@ use Rattle.std.specs.List.{filter}
 use Rattle.sched_calls.specs.declared.call.Call.{Call}
 use Rattle.live_command.specs.declared.fault.LineFault.{LineFault}
 use Rattle.live_command.specs.Spoken.{heard_of}
+use Rattle.check_lines.specs.declared.told_line.ToldLine.{ToldLine}
 
 -- A line that is answered `bad line`, by its number, counted from 1
 pub record BadLine : Type 0 where
   pub number : ℕ
   pub fault : LineFault
+
+-- the bad line that is told
+abbrev pub bad_of : ToldLine → BadLine
+bad_of t = record { number = t.number; fault = t.fault }
 
 -- what is bad of what was heard of the line of this number
 abbrev pub bad_heard : ℕ → Option (Result Call LineFault) → List BadLine

@@ -6,6 +6,7 @@ use Rattle.text_stream.specs.declared.run_fault.RunFault.{RunFault}
 use Rattle.text_stream.specs.declared.run_fault.RunFault.TheVariants.{Text}
 use Rattle.journal_entries.specs.End.{StopsCommand}
 use Rattle.check_lines.specs.Document.{Checks, StopsCheck}
+use Rattle.check_lines.specs.declared.form.CheckForm.{CheckForm}
 use Rattle.check_lines.specs.declared.kind.FileKind.{FileKind}
 use Rattle.check_lines.specs.declared.kind.FileKind.TheVariants as kind
 use Rattle.check_lines.specs.declared.verdict.Verdict.{Verdict}
@@ -15,35 +16,38 @@ use Rattle.check_lines.specs.Kind.{kind_of_front}
 use Rattle.check_lines.specs.Journal.{ChecksJournal}
 use Rattle.check_lines.specs.Live.{ChecksLive, StopsLive}
 
--- a file was checked as a document
-abbrev pub ChecksDocument : Option (List ℕ) → Option (List ℕ) → Option (List ℕ) → Option (List ℕ) → Verdict → Type 0
-ChecksDocument unread left before after (Document found) = Checks unread left before after found
-ChecksDocument unread left before after (Journal end) = ⊥
-ChecksDocument unread left before after (Opening fault) = ⊥
-ChecksDocument unread left before after (Live bad) = ⊥
+-- a file was checked as a document, and what was found was written in this form
+abbrev pub ChecksDocument : CheckForm → Option (List ℕ) → Option (List ℕ) → Option (List ℕ) → Option (List ℕ)
+    → Verdict → Type 0
+ChecksDocument form unread left before after (Document found) = Checks form unread left before after found
+ChecksDocument form unread left before after (Journal end) = ⊥
+ChecksDocument form unread left before after (Opening fault) = ⊥
+ChecksDocument form unread left before after (Live bad) = ⊥
 
 -- as a journal
-abbrev pub ChecksAsJournal : Option (List ℕ) → Option (List ℕ) → Option (List ℕ) → Option (List ℕ) → Verdict → Type 0
-ChecksAsJournal unread left before after (Document found) = ⊥
-ChecksAsJournal unread left before after (Journal end) = ChecksJournal unread left before after end
-ChecksAsJournal unread left before after (Opening fault) = ⊥
-ChecksAsJournal unread left before after (Live bad) = ⊥
+abbrev pub ChecksAsJournal : CheckForm → Option (List ℕ) → Option (List ℕ) → Option (List ℕ) → Option (List ℕ)
+    → Verdict → Type 0
+ChecksAsJournal form unread left before after (Document found) = ⊥
+ChecksAsJournal form unread left before after (Journal end) = ChecksJournal form unread left before after end
+ChecksAsJournal form unread left before after (Opening fault) = ⊥
+ChecksAsJournal form unread left before after (Live bad) = ⊥
 
 -- a file was checked as this kind
-abbrev pub ChecksAs : FileKind → Option (List ℕ) → Option (List ℕ) → Option (List ℕ) → Option (List ℕ) → Verdict
-    → Type 0
-ChecksAs kind.Document unread left before after found = ChecksDocument unread left before after found
-ChecksAs kind.Journal unread left before after found = ChecksAsJournal unread left before after found
-ChecksAs kind.Live unread left before after found = ChecksLive unread left before after found
+abbrev pub ChecksAs : CheckForm → FileKind → Option (List ℕ) → Option (List ℕ) → Option (List ℕ) → Option (List ℕ)
+    → Verdict → Type 0
+ChecksAs form kind.Document unread left before after found = ChecksDocument form unread left before after found
+ChecksAs form kind.Journal unread left before after found = ChecksAsJournal form unread left before after found
+ChecksAs form kind.Live unread left before after found = ChecksLive form unread left before after found
 
 -- A file was checked as the kind that its first bytes begin. What is known of the bytes to be read is as it was before
 -- they were looked at
-pub record ChecksAny (unread left before after : Option (List ℕ)) (found : Verdict) : Type 0 where
+pub record ChecksAny (form : CheckForm) (unread left before after : Option (List ℕ)) (found : Verdict)
+    : Type 0 where
   pub text : Option (List ℕ)
   pub same : Keeps unread text
   pub front : List ℕ
   pub is_front : IsFront text front
-  pub checks : ChecksAs (kind_of_front front) text left before after found
+  pub checks : ChecksAs form (kind_of_front front) text left before after found
 
 -- why the check of a file of this kind ends
 abbrev pub StopsAs : FileKind → Option (List ℕ) → Option (List ℕ) → RunFault → Type 0

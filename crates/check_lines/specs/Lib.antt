@@ -8,6 +8,8 @@ pub mod Kind
 pub mod InputKind
 pub mod Bad
 pub mod Text
+pub mod Objects
+pub mod Forms
 pub mod Journal
 pub mod Opening
 pub mod Live

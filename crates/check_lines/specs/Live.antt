@@ -1,5 +1,5 @@
 -- What is found in the input of a conversation, and what is written of it.
-use Rattle.std.specs.Prelude.{◌≡◌, ℕ, ◌+◌, ◌<◌, ◌≤◌, List, [], ◌∷◌, ◌++◌, length, take, Option, None, Some}
+use Rattle.std.specs.Prelude.{◌≡◌, ℕ, ◌+◌, ◌<◌, ◌≤◌, List, [], ◌∷◌, ◌++◌, length, map, take, Option, None, Some}
 use Rattle.std.specs.Prelude.{Result, Ok, Err}
 use Rattle.std.specs.Io.KnownBytes.{Appends, IsAtEnd}
 use Rattle.sched_calls.specs.declared.call.Call.{Call}
@@ -11,27 +11,23 @@ use Rattle.text_stream.specs.declared.run_fault.RunFault.{RunFault}
 use Rattle.text_stream.specs.declared.run_fault.RunFault.TheVariants.{Text, Threads}
 use Rattle.live_command.specs.declared.fault.LineFault.{LineFault}
 use Rattle.live_command.specs.Talk.{AreLines}
+use Rattle.check_lines.specs.declared.form.CheckForm.{CheckForm}
+use Rattle.check_lines.specs.declared.told_line.ToldLine.{ToldLine}
 use Rattle.check_lines.specs.declared.live.TheConstants.{MOST}
 use Rattle.check_lines.specs.declared.live.Conversation.{Conversation}
 use Rattle.check_lines.specs.declared.live.LiveReport.{LiveReport}
 use Rattle.check_lines.specs.declared.live.LiveReport.TheVariants as report
 use Rattle.check_lines.specs.declared.verdict.Verdict.{Verdict}
 use Rattle.check_lines.specs.declared.verdict.Verdict.TheVariants as verdict
-use Rattle.check_lines.specs.Bad.{BadLine, bad_lines, call_lines}
+use Rattle.check_lines.specs.Bad.{BadLine, bad_of, bad_lines, call_lines}
 use Rattle.check_lines.specs.Opening.{OpensAt, HasFaultyOpening, StopsLines}
-use Rattle.check_lines.specs.Text.{opening_text, bad_line_text, talk_text}
-
--- these bad lines are told, in order, each with words behind it
-abbrev pub TellsEach : List BadLine → List ℕ → Type 0
-TellsEach [] text = text ≡ []
-TellsEach (bad ∷ others) text = (words : List ℕ) × (rest : List ℕ)
-    × (text ≡ bad_line_text bad ++ (words ++ rest)) × TellsEach others rest
+use Rattle.check_lines.specs.Forms.{opening_as, talk_as}
 
 -- There are so many calls and so many bad lines, and the first of these are told
 pub record Counts (calls : List (List ℕ)) (bads : List BadLine) (talk : Conversation) : Type 0 where
   pub calls_are : talk.calls ≡ length calls
   pub bad_is : talk.bad ≡ length bads
-  pub told_are : TellsEach (take MOST bads) talk.told.items
+  pub told_are : map bad_of talk.told.items ≡ take MOST bads
 
 -- lines behind so many others were heard
 abbrev pub HearsEach : ℕ → List (List ℕ) → Conversation → Type 0
@@ -41,8 +37,8 @@ HearsEach passed lines talk = Counts (call_lines lines) (bad_lines passed lines)
 pub record HearsBad (number : ℕ) (fault : LineFault) (old new : Conversation) : Type 0 where
   pub calls_are : new.calls ≡ old.calls
   pub bad_is : new.bad ≡ old.bad + 1
-  pub told_is : old.bad < MOST → (words : List ℕ)
-      × (new.told.items ≡ old.told.items ++ (bad_line_text (record { number = number; fault = fault }) ++ words))
+  pub told_is : old.bad < MOST → (line : ToldLine) × (bad_of line ≡ record { number = number; fault = fault })
+      × (new.told.items ≡ old.told.items ++ line ∷ [])
   pub untold : MOST ≤ old.bad → new.told.items ≡ old.told.items
 
 -- what becomes of what was heard of the line of this number
@@ -77,31 +73,29 @@ abbrev pub FindsLive : Option (List ℕ) → Option (List ℕ) → LiveReport �
 FindsLive unread left (report.Talk talk) = FindsTalk unread left talk
 FindsLive unread left (report.Faulty fault place words) = HasFaultyOpening unread fault place
 
--- The lines of a conversation were read, and what was found in them was written
-pub record ChecksTalk (unread left before after : Option (List ℕ)) (bad : ℕ) : Type 0 where
+-- The lines of a conversation were read, and what was found in them was written in this form
+pub record ChecksTalk (form : CheckForm) (unread left before after : Option (List ℕ)) (bad : ℕ)
+    : Type 0 where
   pub talk : Conversation
   pub found : FindsTalk unread left talk
   pub bad_is : bad ≡ talk.bad
-  pub written : Appends before after (talk_text talk.calls talk.bad talk.told.items)
+  pub written : Appends before after (talk_as form talk)
 
--- The opening of a conversation has this fault, and that was written, with words behind it
-pub record ChecksOpening (unread before after : Option (List ℕ)) (fault : TextFault) : Type 0 where
+-- The opening of a conversation has this fault, and that was written in this form, with words
+pub record ChecksOpening (form : CheckForm) (unread before after : Option (List ℕ)) (fault : TextFault)
+    : Type 0 where
   pub place : Option ℕ
   pub found : HasFaultyOpening unread fault place
   pub words : List ℕ
-  pub written : Appends before after (opening_text fault place ++ words)
+  pub written : Appends before after (opening_as form fault place words)
 
--- the input of a conversation was read, and this is the verdict on it
-abbrev pub ChecksLive : Option (List ℕ) → Option (List ℕ) → Option (List ℕ) → Option (List ℕ) → Verdict → Type 0
-ChecksLive unread left before after (verdict.Document fault) = ⊥
-ChecksLive unread left before after (verdict.Journal end) = ⊥
-ChecksLive unread left before after (verdict.Opening fault) = ChecksOpening unread before after fault
-ChecksLive unread left before after (verdict.Live bad) = ChecksTalk unread left before after bad
-
--- what is written of the input of a conversation
-abbrev pub TextOfLive : LiveReport → List ℕ → Type 0
-TextOfLive (report.Talk talk) text = text ≡ talk_text talk.calls talk.bad talk.told.items
-TextOfLive (report.Faulty fault place words) text = (more : List ℕ) × (text ≡ opening_text fault place ++ more)
+-- the input of a conversation was read, and this is the verdict on it, which was written in this form
+abbrev pub ChecksLive : CheckForm → Option (List ℕ) → Option (List ℕ) → Option (List ℕ) → Option (List ℕ) → Verdict
+    → Type 0
+ChecksLive form unread left before after (verdict.Document fault) = ⊥
+ChecksLive form unread left before after (verdict.Journal end) = ⊥
+ChecksLive form unread left before after (verdict.Opening fault) = ChecksOpening form unread before after fault
+ChecksLive form unread left before after (verdict.Live bad) = ChecksTalk form unread left before after bad
 
 -- the verdict on it
 abbrev pub verdict_of : LiveReport → Verdict

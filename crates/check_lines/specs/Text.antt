@@ -1,5 +1,7 @@
 -- What is written of a file that is read by lines.
-use Rattle.std.specs.Prelude.{ℕ, ◌-◌, ◌==◌, nat_le, if◌then◌else◌, List, [], ◌∷◌, ◌++◌, codes, Option, None, Some}
+use Rattle.std.specs.Prelude.{ℕ, ◌-◌, ◌==◌, nat_le, if◌then◌else◌, List, [], ◌∷◌, ◌++◌, codes, flat_map}
+use Rattle.std.specs.Prelude.{Option, None, Some}
+use Rattle.std.specs.String.{string_bytes}
 use Rattle.text_stream.specs.declared.fault.TextFault.{TextFault}
 use Rattle.sched_lines.specs.Line.{number_text, number_line}
 use Rattle.check_lines.specs.Found.{fault_text}
@@ -7,7 +9,9 @@ use Rattle.journal_entries.specs.declared.end.EntriesEnd.{EntriesEnd}
 use Rattle.journal_entries.specs.declared.end.EntriesEnd.TheVariants.{Legal, Illegal, Bad}
 use Rattle.live_command.specs.Spoken.{fault_words}
 use Rattle.check_lines.specs.declared.live.TheConstants.{MOST}
-use Rattle.check_lines.specs.Bad.{BadLine}
+use Rattle.check_lines.specs.declared.live.Conversation.{Conversation}
+use Rattle.check_lines.specs.declared.told_line.ToldLine.{ToldLine}
+use Rattle.check_lines.specs.Bad.{BadLine, bad_of}
 
 -- a line of words
 unfoldable pub text_line : List ℕ → List ℕ
@@ -45,6 +49,10 @@ opening_text fault place = fault_text fault ++ (10 ∷ [] ++ place_text place)
 unfoldable pub bad_line_text : BadLine → List ℕ
 bad_line_text b = codes "line" ++ (number_text b.number ++ (codes ": " ++ text_line (fault_words b.fault)))
 
+-- a bad line that is told, and words behind it
+unfoldable pub told_text : ToldLine → List ℕ
+told_text t = bad_line_text (bad_of t) ++ string_bytes t.words
+
 -- how many lines are bad
 abbrev pub bad_text : ℕ → List ℕ
 bad_text bad =
@@ -54,6 +62,8 @@ bad_text bad =
 abbrev pub more_text : ℕ → List ℕ
 more_text bad = if nat_le bad MOST then [] else number_line (codes "bad lines that are not told:") (bad - MOST)
 
--- what is said of a conversation with so many calls and bad lines, of which these are told
-unfoldable pub talk_text : ℕ → ℕ → List ℕ → List ℕ
-talk_text calls bad told = bad_text bad ++ (number_line (codes "calls:") calls ++ (told ++ more_text bad))
+-- what is said of the lines of a conversation: how many are bad and how many are calls, and the first of the bad ones
+unfoldable pub talk_text : Conversation → List ℕ
+talk_text talk =
+    bad_text talk.bad ++ (number_line (codes "calls:") talk.calls
+    ++ (flat_map told_text talk.told.items ++ more_text talk.bad))

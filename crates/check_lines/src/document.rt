@@ -8,7 +8,9 @@ ghost use Rattle.text_stream.specs.declared.run_fault.RunFault.TheVariants.{Text
 ghost use Rattle.check_lines.specs.Found.{fault_text, praise, verdict_text, verdict_line};
 ghost use Rattle.check_lines.specs.Document.{Checks, StopsCheck};
 
+use crate::form::CheckForm;
 use crate::report::report_on;
+use crate::told_as::put_document_as;
 use json_fields::forms::Kind;
 use sched_lines::put_number;
 use std::alloc::Global;
@@ -68,9 +70,9 @@ fn put_verdict<W: Sink>(
     }
 }
 
-// The first line, and words behind it.
+/// Writes the first line, and words behind it.
 #[tactic(auto, unfolding(crate::specs::Found::verdict_line))]
-fn put_report<W: Sink>(
+pub(crate) fn put_report<W: Sink>(
     writer: &mut W,
     kind: Kind,
     found: Option<TextFault>,
@@ -97,14 +99,16 @@ fn told(found: Option<TextFault>) -> Option<RunFault>
 /// Reads a file to the reader's end, a script, the script of a storm or a history by its members, and answers the
 /// fault by which `run`, `storm` or `audit` ends on the same bytes before it does anything, or none. Writes that fault
 /// in one line, as those commands tell it, or that the file is good, and words on it behind: where the fault is and
-/// what was expected, or what the file has. Whether a history is legal and whether calls are refused is not looked at.
+/// what was expected, or what the file has; or the same as an object in JSON. Whether a history is legal and whether
+/// calls are refused is not looked at.
 pub(crate) fn run_check<R: Source, W: Sink>(
     alloc: Global,
+    form: CheckForm,
     reader: &mut R,
     writer: &mut W,
 ) -> Result<Option<RunFault>, RunFault>
-    // What is found is what the command for such a file finds, and its line was written first.
-    ensures ok { IfOk result (Checks (R.remaining reader.old) (R.remaining reader.new)
+    // What is found is what the command for such a file finds, and that was written in the form that is asked for.
+    ensures ok { IfOk result (Checks form (R.remaining reader.old) (R.remaining reader.new)
         (W.contents writer.old) (W.contents writer.new)) }
 
     // Each fault comes under its own condition, the first one in their order.
@@ -119,6 +123,13 @@ pub(crate) fn run_check<R: Source, W: Sink>(
 {
     let bytes = read_all(alloc, reader)?;
     let report = report_on(alloc, &bytes)?;
-    put_report(writer, report.kind, report.fault, report.words.as_bytes())?;
+    put_document_as(
+        alloc,
+        writer,
+        form,
+        report.kind,
+        report.fault,
+        report.words.as_str(),
+    )?;
     Ok(told(report.fault))
 }

@@ -2,6 +2,7 @@
 //! nothing is left to flush.
 
 use crate::check::run_check_any;
+use crate::form::CheckForm;
 use crate::front::Front;
 use crate::verdict::Verdict;
 use std::io;
@@ -11,7 +12,13 @@ use text_stream::{RunFault, Source, Watched};
 pub fn check_any_input<R: Source + Drop>(
     rt: &(impl Print + AllocGlobal),
     reader: R,
+    form: CheckForm,
 ) -> Result<Verdict, RunFault> {
     let mut front = Front::new(rt.alloc(), reader);
-    run_check_any(rt.alloc(), &mut front, &mut Watched::new(io::writer(rt)))
+    run_check_any(
+        rt.alloc(),
+        form,
+        &mut front,
+        &mut Watched::new(io::writer(rt)),
+    )
 }

@@ -7,20 +7,27 @@ mod check;
 mod document;
 mod document_kind;
 mod finding;
+mod form;
 mod front;
 mod input;
 mod journal;
 mod kind;
 mod lines;
 mod live;
+mod names;
+mod object_lines;
+mod objects;
 mod opening;
 mod report;
 mod text;
+mod told_as;
 mod told_input;
+mod told_line;
 mod verdict;
 mod words;
 
 pub use check::run_check_any;
+pub use form::CheckForm;
 pub use front::Front;
 pub use input::check_any_input;
 pub use told_input::{

@@ -1,15 +1,16 @@
 //! What is found in the input of a conversation, read line by line.
 
-ghost use Rattle.std.specs.Prelude.{◌≡◌, ◌+◌, ◌-◌, ◌^◌, ◌<◌, ◌++◌, List, ℕ, IfOk, IfErr, OnOk};
+ghost use Rattle.std.specs.Prelude.{◌≡◌, ◌+◌, ◌-◌, ◌^◌, ◌<◌, ◌++◌, ◌∷◌, [], List, ℕ, IfOk, IfErr, OnOk};
 ghost use Rattle.text_stream.specs.Told.{IsTold, untold};
 ghost use Rattle.text_stream.specs.Watched.{FailsBy};
 ghost use Rattle.live_command.specs.Spoken.{heard_of};
 ghost use Rattle.check_lines.specs.Live.{HearsBad, Hears, HearsAll, FindsLive, verdict_of};
 ghost use Rattle.check_lines.specs.Opening.{StopsLines};
-ghost use Rattle.check_lines.specs.Text.{bad_line_text};
+ghost use Rattle.check_lines.specs.declared.told_line.ToldLine.{ToldLine};
+ghost use Rattle.check_lines.specs.Bad.{bad_of};
 
 use crate::opening::{Opening, read_opening};
-use crate::text::put_bad_line;
+use crate::told_line::ToldLine;
 use crate::verdict::Verdict;
 use crate::words::words_on_bad_line;
 use json::Scratch;
@@ -27,8 +28,8 @@ pub(crate) struct Conversation {
     pub calls: u64,
     /// How many of them are answered `bad line`.
     pub bad: u64,
-    /// The first of the bad ones: what is said of each.
-    pub told: Vec<u8>,
+    /// The first of the bad ones.
+    pub told: Vec<ToldLine>,
 }
 
 /// What is found in the input of a conversation.
@@ -52,24 +53,37 @@ impl LiveReport {
     }
 }
 
+// Puts a bad line behind those that are told.
+fn push_told(told: &mut Vec<ToldLine>, line: ToldLine) -> Result<(), TextFault>
+    ensures ok { OnOk result (told.new.items ≡ told.old.items ++ line ∷ []) }
+    ensures err { IfErr result (λ e. e ≡ TextFault.Memory) }
+{
+    match told.push(line) {
+        Ok(()) => Ok(()),
+        Err(_) => Err(TextFault::Memory),
+    }
+}
+
 // Tells of a bad line.
 fn tell(
     alloc: Global,
-    told: &mut Vec<u8>,
+    told: &mut Vec<ToldLine>,
     number: u64,
     fault: LineFault,
     shown: &[u8],
 ) -> Result<(), TextFault>
-    ensures ok { OnOk result ((words : List ℕ) × (told.new.items ≡ told.old.items
-        ++ (bad_line_text (record { number = number; fault = fault }) ++ words))) }
+    ensures ok { OnOk result ((line : ToldLine)
+        × (bad_of line ≡ record { number = number; fault = fault })
+        × (told.new.items ≡ told.old.items ++ line ∷ [])) }
     ensures err { IfErr result (λ e. e ≡ TextFault.Memory) }
 {
     let words = words_on_bad_line(alloc, number, fault, shown)?;
-    if put_bad_line(told, number, fault).is_err() {
-        return Err(TextFault::Memory);
-    }
-    told.extend_from_slice(words.as_bytes())?;
-    Ok(())
+    let line = ToldLine {
+        number,
+        fault,
+        words,
+    };
+    push_told(told, line)
 }
 
 // Takes a bad line.

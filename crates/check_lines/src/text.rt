@@ -1,13 +1,14 @@
 //! What is written of a file that is read by lines.
 
-ghost use Rattle.std.specs.Prelude.{◌≡◌, ◌++◌, Option};
+ghost use Rattle.std.specs.Prelude.{◌≡◌, ◌++◌, flat_map, Option};
 ghost use Rattle.text_stream.specs.Writing.{Writes};
 ghost use Rattle.check_lines.specs.Text.{text_line, torn_text, good_text, legal_text, end_text};
 ghost use Rattle.check_lines.specs.Text.{place_text, opening_text};
-ghost use Rattle.check_lines.specs.Text.{bad_line_text, bad_text, more_text, talk_text};
+ghost use Rattle.check_lines.specs.Text.{bad_line_text, told_text, bad_text, more_text, talk_text};
 
 use crate::document::put_fault;
-use crate::live::MOST;
+use crate::live::{Conversation, MOST};
+use crate::told_line::ToldLine;
 use journal_entries::EntriesEnd;
 use live_command::LineFault;
 use sched_lines::{put_named, put_number};
@@ -121,13 +122,9 @@ pub(crate) fn put_faulty<W: Sink>(
     put(writer, words)
 }
 
-/// What is said first of a bad line of this number.
+// What is said first of a bad line of this number.
 #[tactic(auto, unfolding(crate::specs::Text::bad_line_text))]
-pub(crate) fn put_bad_line<W: Sink>(
-    writer: &mut W,
-    number: u64,
-    fault: LineFault,
-) -> Result<(), TextFault>
+fn put_bad_line<W: Sink>(writer: &mut W, number: u64, fault: LineFault) -> Result<(), TextFault>
     ensures { Writes W.contents W.has_failed writer.old writer.new
         (bad_line_text (record { number = number; fault = fault })) result }
 {
@@ -135,6 +132,26 @@ pub(crate) fn put_bad_line<W: Sink>(
     put_number(writer, number)?;
     put(writer, b": ")?;
     put_text_line(writer, fault.words().as_bytes())
+}
+
+// A bad line that is told, and words behind it.
+#[tactic(auto, unfolding(crate::specs::Text::told_text))]
+fn put_told<W: Sink>(writer: &mut W, line: &ToldLine) -> Result<(), TextFault>
+    ensures { Writes W.contents W.has_failed writer.old writer.new (told_text line.now) result }
+{
+    put_bad_line(writer, line.number, line.fault)?;
+    put(writer, line.words.as_bytes())
+}
+
+// Bad lines that are told, one after the other.
+fn put_each_told<W: Sink>(writer: &mut W, told: &[ToldLine]) -> Result<(), TextFault>
+    ensures { Writes W.contents W.has_failed writer.old writer.new
+        (flat_map told_text told.now) result }
+{
+    for line in told {
+        put_told(writer, line)?;
+    }
+    Ok(())
 }
 
 // How many lines are bad.
@@ -157,19 +174,13 @@ fn put_more<W: Sink>(writer: &mut W, bad: u64) -> Result<(), TextFault>
     put_named(writer, b"bad lines that are not told:", bad - MOST)
 }
 
-/// What is said of a conversation with so many calls and bad lines, of which these are told.
+/// What is said of the lines of a conversation.
 #[tactic(auto, unfolding(crate::specs::Text::talk_text))]
-pub(crate) fn put_talk<W: Sink>(
-    writer: &mut W,
-    calls: u64,
-    bad: u64,
-    told: &[u8],
-) -> Result<(), TextFault>
-    ensures { Writes W.contents W.has_failed writer.old writer.new
-        (talk_text calls bad told.now) result }
+pub(crate) fn put_talk<W: Sink>(writer: &mut W, talk: &Conversation) -> Result<(), TextFault>
+    ensures { Writes W.contents W.has_failed writer.old writer.new (talk_text talk.now) result }
 {
-    put_bad(writer, bad)?;
-    put_named(writer, b"calls:", calls)?;
-    put(writer, told)?;
-    put_more(writer, bad)
+    put_bad(writer, talk.bad)?;
+    put_named(writer, b"calls:", talk.calls)?;
+    put_each_told(writer, &talk.told)?;
+    put_more(writer, talk.bad)
 }

@@ -146,6 +146,10 @@ of that entry follows `illegal`, then what was expected, and what was found: a M
 with the 64 bits of its times, its table and the bytes that it grants. A > marks the first line that differs, before the elements and from them
 on. Of lawful placements one is shown.
 
+With --json it prints the verdict in one line of JSON: {"entries":4,"legal":true}, of
+a journal with "torn" too, the bytes after its last newline; or
+{"illegal":3,"legal":false}.
+
 Exit statuses: 0 legal, 1 illegal, 2 for the command line, 3 for the input (of a
 journal `bad journal at N`, the line, counted from 0), 4 for the machine. Where a
 history is bad, `mapsched check` shows where.
@@ -199,6 +203,9 @@ legal.
 For a journal it prints `good journal`, or what `audit --journal` prints, and which
 line is wrong; for the lines of `live`, `good live input` or how many of them would
 be answered `bad line`, and which these are. Lines are counted from 1.
+
+With --json it prints the same in one line of JSON, an object: "good", which is true
+or false, "kind", and the fault, with its number, its line and words on it.
 
 Exit statuses: 0 good, or lines for `live` after a good configuration, 1 for an
 illegal journal, 2 for the command line, 3 for the input, 4 for the machine.

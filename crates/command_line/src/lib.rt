@@ -185,10 +185,18 @@ fn decode_command<'a>(alloc: Global) -> Result<Command<'a>, AllocError>
         .arg(decode_json_option(alloc)?)
 }
 
+// The verdict in JSON.
+fn audit_json_option<'a>(alloc: Global) -> Result<Arg<'a>, AllocError>
+    ensures named { IfOk result (λ r. r.id.now ≡ codes "json") }
+    ensures local { IfOk result (λ r. r.global ≡ false) }
+{
+    flag(alloc, "json", "Prints the verdict in JSON").conflicts_with("explain")
+}
+
 // The command that judges a history.
 fn audit_command<'a>(alloc: Global) -> Result<Command<'a>, AllocError>
-    ensures { IfOk result
-        (λ r. IsCommand r (codes "audit") (codes "explain" ∷ codes "journal" ∷ codes "FILE" ∷ []) []) }
+    ensures { IfOk result (λ r. IsCommand r (codes "audit")
+        (codes "explain" ∷ codes "json" ∷ codes "journal" ∷ codes "FILE" ∷ []) []) }
 {
     let about = "Reads a history from standard input and prints whether it is legal";
     let journal = journal_option(alloc).conflicts_with("explain")?;
@@ -199,6 +207,7 @@ fn audit_command<'a>(alloc: Global) -> Result<Command<'a>, AllocError>
     );
     command(alloc, "audit", about, help::AUDIT)
         .arg(explain)?
+        .arg(audit_json_option(alloc)?)?
         .arg(journal)?
         .arg(file_word(alloc))
 }
@@ -256,10 +265,12 @@ fn report_command<'a>(alloc: Global) -> Result<Command<'a>, AllocError>
 
 // The command that tells what is wrong in a file.
 fn check_command<'a>(alloc: Global) -> Result<Command<'a>, AllocError>
-    ensures { IfOk result (λ r. IsCommand r (codes "check") (codes "FILE" ∷ []) []) }
+    ensures { IfOk result (λ r. IsCommand r (codes "check") (codes "json" ∷ codes "FILE" ∷ []) []) }
 {
     let about = "Reads a file from standard input and says what is wrong in it, or what it has";
-    command(alloc, "check", about, help::CHECK).arg(file_word(alloc))
+    command(alloc, "check", about, help::CHECK)
+        .arg(flag(alloc, "json", "Prints it in JSON"))?
+        .arg(file_word(alloc))
 }
 
 // The command that runs scripts at the same time.
@@ -389,12 +400,12 @@ pub fn commands<'a>(alloc: Global) -> Result<Command<'a>, AllocError>
           codes "HEX" ∷ codes "draw" ∷ codes "columns" ∷ codes "explain" ∷ codes "frame" ∷ codes "json" ∷ [],
         )
         ∷ (codes "draw", codes "from" ∷ codes "count" ∷ codes "journal" ∷ codes "FILE" ∷ [])
-        ∷ (codes "audit", codes "explain" ∷ codes "journal" ∷ codes "FILE" ∷ [])
+        ∷ (codes "audit", codes "explain" ∷ codes "json" ∷ codes "journal" ∷ codes "FILE" ∷ [])
         ∷ (
           codes "report",
           codes "all" ∷ codes "json" ∷ codes "openmetrics" ∷ codes "svg" ∷ codes "journal" ∷ codes "FILE" ∷ [],
         )
-        ∷ (codes "storm", codes "FILE" ∷ []) ∷ (codes "check", codes "FILE" ∷ [])
+        ∷ (codes "storm", codes "FILE" ∷ []) ∷ (codes "check", codes "json" ∷ codes "FILE" ∷ [])
         ∷ (codes "pcap", codes "mac" ∷ codes "journal" ∷ codes "FILE" ∷ [])
         ∷ (codes "live", codes "explain" ∷ codes "frames" ∷ codes "journal" ∷ codes "sync" ∷ [])
         ∷ (codes "bursts", codes "BYTES" ∷ codes "json" ∷ []) ∷ [])) }

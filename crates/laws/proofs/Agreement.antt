@@ -15,6 +15,7 @@ use Rattle.json_fields.specs.declared.forms.Kind.{Kind}
 use Rattle.json_fields.specs.declared.forms.Kind.TheVariants.{Script, Storm, History}
 use Rattle.check_lines.specs.DocumentKind.{kind_of}
 use Rattle.check_lines.specs.Found.{fault_in, fault_as, fault_of}
+use Rattle.check_lines.specs.declared.form.CheckForm.{CheckForm}
 use Rattle.check_lines.specs.Document.{Checks}
 use Rattle.laws.specs.Agree.{Agrees, AgreesWithCommands}
 use Rattle.check_lines.proofs.HistoryTold.{history-told, history-has}
@@ -90,8 +91,8 @@ audit-agrees text rest found is (Text Output) stops =
     stands found _ is stops.0 (history-has text rest (Ok stops.0) stops.1)
 audit-agrees text rest found is Threads stops = absurd stops
 
-module _ (text : List ℕ) (left before after : Option (List ℕ)) (found : Option RunFault)
-    (checks : Checks (Some text) left before after found) where
+module _ (form : CheckForm) (text : List ℕ) (left before after : Option (List ℕ)) (found : Option RunFault)
+    (checks : Checks form (Some text) left before after found) where
   -- what is found in the text as a file of its kind
   as_kind : (kind : Kind) → kind_of text ≡ kind → found ≡ option_map Text (fault_as kind text)
   as_kind kind e =
@@ -109,6 +110,6 @@ module _ (text : List ℕ) (left before after : Option (List ℕ)) (found : Opti
     stormed = λ kind rest storm read.
         stands found _ (as_kind Storm kind) storm (storm-has text rest (Ok storm) read);
     audit = λ kind rest fault stops. audit-agrees text rest found (as_kind History kind) fault stops;
-    audited = λ kind explained rest b a legal audited.
+    audited = λ kind as_asked rest b a legal audited.
         stands found _ (as_kind History kind) audited.history (history-has text rest (Ok audited.history) audited.read);
   }

@@ -52,7 +52,7 @@ module _ (text : List ℕ) (history : History) (is : history_outcome text ≡ Ok
   -- and where it is legal, each audit says so
   judged_text : length text ≤ MAX_INPUT → IsLegal history.config history.entries → IsJudgedLegal text
   judged_text short legal = record {
-    legal = λ explained left before after says audited.
+    legal = λ form left before after says audited.
         audited.legal_is.1 (subst (λ (h : History). IsLegal h.config h.entries)
         (sym (same_history left audited.history audited.read)) legal);
     stops = of_machine short;

@@ -7,6 +7,7 @@ use Rattle.script_reading.specs.Stops.{Stops}
 use Rattle.run_command.specs.declared.output.RunOutput.{RunOutput}
 use Rattle.run_command.specs.Run.{Ran}
 use Rattle.sched_storm.specs.StormRun.{StopsStorm}
+use Rattle.audit_command.specs.declared.form.AuditForm.{AuditForm}
 use Rattle.audit_command.specs.Verdict.{Audited, StopsAudit}
 use Rattle.json_fields.specs.declared.forms.Kind.TheVariants.{Script, Storm, History}
 use Rattle.check_lines.specs.DocumentKind.{kind_of}
@@ -40,5 +41,5 @@ pub record AgreesWithCommands (text : List ℕ) (found : Option RunFault) : Type
       → GivesStorm (Some text) left (Ok storm) → found ≡ None
   pub audit : kind_of text ≡ History → (left : Option (List ℕ)) (fault : RunFault) → StopsAudit (Some text) left fault
       → Agrees found fault
-  pub audited : kind_of text ≡ History → (explained : Bool) (left before after : Option (List ℕ)) (legal : Bool)
-      → Audited explained (Some text) left before after legal → found ≡ None
+  pub audited : kind_of text ≡ History → (form : AuditForm) (left before after : Option (List ℕ)) (legal : Bool)
+      → Audited form (Some text) left before after legal → found ≡ None

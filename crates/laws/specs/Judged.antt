@@ -1,6 +1,7 @@
 -- A text that every audit judges legal.
 use Rattle.std.specs.Prelude.{◌≡◌, ℕ, Bool, true, List, Option, Some}
 use Rattle.text_stream.specs.declared.run_fault.RunFault.{RunFault}
+use Rattle.audit_command.specs.declared.form.AuditForm.{AuditForm}
 use Rattle.audit_command.specs.Verdict.{Audited, StopsAudit}
 use Rattle.text_stream.specs.declared.fault.TextFault.TheVariants.{Input, TooLong, NotJson, Shape, Config, Memory}
 use Rattle.text_stream.specs.declared.fault.TextFault.TheVariants.{Output}
@@ -19,6 +20,6 @@ IsOfMachine Threads = ⊥
 
 -- each audit of the text answers that it is legal, and none ends by a fault of the text
 pub record IsJudgedLegal (text : List ℕ) : Type 0 where
-  pub legal : (explained : Bool) (left before after : Option (List ℕ)) (legal : Bool)
-      → Audited explained (Some text) left before after legal → legal ≡ true
+  pub legal : (form : AuditForm) (left before after : Option (List ℕ)) (legal : Bool)
+      → Audited form (Some text) left before after legal → legal ≡ true
   pub stops : (left : Option (List ℕ)) (fault : RunFault) → StopsAudit (Some text) left fault → IsOfMachine fault

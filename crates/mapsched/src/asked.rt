@@ -1,6 +1,8 @@
 //! What the words of the command line ask of a command.
 
+use audit_command::{AuditForm, JournalForm};
 use bursts_command::BurstsForm;
+use check_lines::CheckForm;
 use clap::ArgMatches;
 use decode_command::{Form as DecodeForm, JsonForm};
 use live_command::Wording;
@@ -21,6 +23,33 @@ pub(crate) fn output_of(run: &ArgMatches) -> RunOutput {
         return RunOutput::Journal;
     }
     RunOutput::Lines(Words::Plain)
+}
+
+/// The form in which the command `audit` is asked for the verdict on a history.
+pub(crate) fn audit_form_of(audit: &ArgMatches) -> AuditForm {
+    if audit.get_flag("json") {
+        return AuditForm::Json;
+    }
+    if audit.get_flag("explain") {
+        return AuditForm::Explained;
+    }
+    AuditForm::Line
+}
+
+/// The form in which it is asked for that on a journal.
+pub(crate) fn journal_form_of(audit: &ArgMatches) -> JournalForm {
+    if audit.get_flag("json") {
+        return JournalForm::Json;
+    }
+    JournalForm::Line
+}
+
+/// The form in which the command `check` is asked for what it finds.
+pub(crate) fn check_form_of(check: &ArgMatches) -> CheckForm {
+    if check.get_flag("json") {
+        return CheckForm::Json;
+    }
+    CheckForm::Lines
 }
 
 /// The form in which the command `report` is asked for its numbers.

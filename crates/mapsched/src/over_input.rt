@@ -2,7 +2,7 @@
 //! nor the form for journals into that of its command: a frame on the stack has the room of all that is put into a
 //! function.
 
-use crate::asked::{form_of, output_of};
+use crate::asked::{audit_form_of, check_form_of, form_of, journal_form_of, output_of};
 use audit_command::{JournalEnd, audit_input, audit_journal_input};
 use check_lines::{Documents, Journals, Reads, check_any_input, tell_input};
 use clap::ArgMatches;
@@ -163,7 +163,7 @@ fn audit_journal<R: Source>(
     rt: &(impl Print + Eprint + AllocGlobal),
     given: &mut Given<'_, '_, R>,
 ) -> ExitCode {
-    match audit_journal_input(rt, &mut given.input) {
+    match audit_journal_input(rt, &mut given.input, journal_form_of(given.words)) {
         Ok(JournalEnd::Legal(_)) => ExitCode::SUCCESS,
         Ok(JournalEnd::Illegal) => ExitCode::FAILURE,
         Ok(JournalEnd::Bad(line)) => ended_journal(rt, Ok(EntriesEnd::Bad(line)), given),
@@ -180,7 +180,7 @@ fn audit<R: Source>(
     if given.words.get_flag("journal") {
         return audit_journal(rt, given);
     }
-    let outcome = audit_input(rt, &mut given.input, given.words.get_flag("explain"));
+    let outcome = audit_input(rt, &mut given.input, audit_form_of(given.words));
     ended(rt, outcome, given)
 }
 
@@ -249,8 +249,9 @@ fn storm<R: Source>(
 fn check<R: Source + Drop>(
     rt: &(impl Print + Eprint + AllocGlobal),
     input: CommandInput<R>,
+    words: &ArgMatches,
 ) -> ExitCode {
-    match check_any_input(rt, input) {
+    match check_any_input(rt, input, check_form_of(words)) {
         Ok(verdict) => ExitCode::from(verdict.status()),
         Err(fault) => fail(rt, fault),
     }
@@ -282,7 +283,7 @@ where
     match name {
         "draw" => draw(rt, &mut given),
         "audit" => audit(rt, &mut given),
-        "check" => check(rt, given.input),
+        "check" => check(rt, given.input, words),
         "report" => report(rt, &mut given),
         "storm" => storm(rt, &mut given),
         "pcap" => pcap(rt, &mut given),

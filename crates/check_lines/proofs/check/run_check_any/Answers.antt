@@ -15,12 +15,12 @@ returns-in_err-look-clause-failed_write g c =
 
 pub returns-clause-ok : goal.returns-clause-ok
 returns-clause-ok g c =
-    ChecksAny-as g.R.Source.remaining c.look.new.self _ _ c.first.result.now c.in_ok-kind.kind
+    ChecksAny-as c.args.form g.R.Source.remaining c.look.new.self _ _ c.first.result.now c.in_ok-kind.kind
     c.in_ok-look.ensures.same c.in_ok-look.ensures.looked c.first.ensures c.in_ok-kind.ensures.ok _ _
     c.check_as.result c.check_as.ensures.ok
 
 pub returns-clause-stops : goal.returns-clause-stops
 returns-clause-stops g c =
-    StopsAny-as g.R.Source.remaining c.look.new.self _ _ c.first.result.now c.in_ok-kind.kind
+    StopsAny-as c.args.form g.R.Source.remaining c.look.new.self _ _ c.first.result.now c.in_ok-kind.kind
     c.in_ok-look.ensures.same c.in_ok-look.ensures.looked c.first.ensures c.in_ok-kind.ensures.ok
     c.check_as.result c.check_as.ensures.stops

@@ -17,6 +17,6 @@ returns-clause-ok g c =
       bytes = bytes;
       all = c.in_ok-bytes.ensures.ok;
       found_is = c.told.ensures ∙ ap (λ (o : Option TextFault). option_map Text o) fault;
-      words = c.as_bytes.result.now;
-      written = rw (kind, fault) at c.in_ok-put_report.ensures.0;
+      words = c.as_str.result.now;
+      written = rw (kind, fault) at c.in_ok-put_document_as.ensures.ok;
     }
