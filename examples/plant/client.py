@@ -3,8 +3,9 @@ library, to be copied. Python 3.9 or later, on Linux.
 
     with Live(config) as live:
         live.admit(17, {"kind": "best_effort", "priority": 3, "rate": 0, "burst": 0})
+        live.build(now=760)
         live.ask(receiver=0, sid=17, count=100, heard=801)
-        payload = live.build(now=760)
+        payload = live.build(now=800)
 
 Each method makes one call and gives its answer as a value. A refusal is a value too, `Refused`: the scheduler has
 recorded it, and nothing else has changed. What goes wrong is an exception, a `Fault`. One thread at a time."""
