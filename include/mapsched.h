@@ -66,7 +66,7 @@ enum mapsched_status {
   MAPSCHED_NO_ENTRY = 6,      /* the history has no entry of this number */
   MAPSCHED_NO_ROOM = 7,       /* the room is shorter than the text, whose length is told */
   MAPSCHED_ILLEGAL = 8,       /* an entry may not follow those before it: its place is told */
-  MAPSCHED_TOO_LONG = 9,      /* a text is longer than MAPSCHED_MAX_TEXT_BYTES, or a payload than MAPSCHED_MAX_BYTES */
+  MAPSCHED_TOO_LONG = 9,      /* a text is longer than MAPSCHED_MAX_TEXT_BYTES, a payload than MAPSCHED_MAX_BYTES, a journal than 2^44 entries */
   MAPSCHED_NOT_JSON = 10,     /* a text is not JSON in UTF-8 */
   MAPSCHED_NO_HISTORY = 11,   /* a text is no history: the place of the entry is told, from 1, or 0 */
   MAPSCHED_NO_TICKET = 12,    /* the worker has no ticket */
@@ -138,7 +138,7 @@ enum mapsched_usage {
   MAPSCHED_INITIAL = 0,    /* Initial Maintenance for any modem */
   MAPSCHED_STATION = 1,    /* Station Maintenance for the modem of sid */
   MAPSCHED_INITIAL_TO = 2, /* Initial Maintenance for the modem of sid */
-  MAPSCHED_REQUEST = 3,    /* requests of the modems of sid: one, those of a priority, or all */
+  MAPSCHED_REQUEST = 3,    /* requests of the modems of sid: one, those of priorities, or all */
   MAPSCHED_QUIET = 4,      /* no modem sends */
   MAPSCHED_DATA = 5        /* a data grant to sid that needs no flow */
 };

@@ -14,7 +14,7 @@ pub const STATUSES: &str = "Exit statuses:
      `mapsched check` shows where the fault is, and what was expected there; a
      second line says so, or what the input is where another command reads it
   4  the machine failed: `out of memory`, `output failed`, `no thread`; the journal
-     of `live` failed, or is in use
+     of `live` failed, is in use, or was changed by another program
 
 `mapsched help COMMAND` shows what a command reads and prints, with an example.";
 
@@ -29,8 +29,8 @@ hexadecimal, `skipped` and the start of the next frame, `flow` and the bytes ask
 granted and outstanding; `refused`, a number and a value; or `history full` or `out
 of memory`, where the call was not recorded. With --explain the meaning of a refusal
 follows it:
-  refused 12 800  # too far: the next frame starts at 800, and what is heard lies
-  before it
+  refused 12 800  # too far: the next frame starts at 800, and what is heard must
+  lie before it
 With --history calls that were not recorded are left out, and standard error says
 how many; the same holds for --journal, which prints the same history in lines: the
 first is {"config": {..}}, and each later one an entry. With --frames `map` is
@@ -143,8 +143,9 @@ error says `torn` and how many.
 Prints `legal` and the number of entries, or `illegal` and the first entry that
 no lawful scheduler could have answered, counted from 0. With --explain the call
 of that entry follows `illegal`, then what was expected, and what was found: a MAP
-with the 64 bits of its times, its table and the bytes that it grants. A > marks the first line that differs, before the elements and from them
-on. Of lawful placements one is shown.
+with the 64 bits of its times, its table and the bytes that it grants. A > marks the
+first line that differs, before the elements and from them on. Of lawful placements
+one is shown.
 
 With --json it prints the verdict in one line of JSON: {"entries":4,"legal":true}, of
 a journal with "torn" too, the bytes after its last newline; or
@@ -196,7 +197,8 @@ Prints one line, `good script`, `good script of a storm` or `good history`, or
 the fault by which `run`, `storm` or `audit` would end; then where the fault is
 and what is expected there, or what the file has; and the keys that nobody reads.
 Of a configuration with `bursts` it says when no data grant is short, and when a
-request by the profile `request` does not fit a poll or the request region.
+request by the profile `request` does not fit a poll or the request region, and of
+`settle` when it is shorter than 1.5 milliseconds.
 `run --explain` shows whether calls are refused, and `audit` whether a history is
 legal.
 
@@ -259,6 +261,8 @@ line that is no call changes nothing, and one of these is its answer:
 `calls` of the configuration does not end it: what was recorded is let go. With
 --explain the meaning of a refusal follows it, and with --frames the whole frame of a
 MAP follows `map`, as in `run`.
+The line {"stats":true} is no call: it is answered by the numbers of the conversation
+in JSON, and is not recorded.
 
 With --journal each call is recorded in FILE before its answer is written, and a
 journal that is in FILE already is continued: then the first line may be left out.
@@ -269,8 +273,8 @@ entry has reached the device.
 Exit statuses: 0 where the input has ended, 2 for the command line, 3 for the first
 line (`other config`: the journal has another one), for a failed read, or for the
 journal (`bad journal at N`, the line, counted from 0), 4 for the machine (`journal
-failed`, and `journal in use` where another program has it). docs/LIVE.md shows a
-conversation.
+failed`, `journal in use` where another program has it, and `journal changed` where
+one changed it). docs/LIVE.md shows a conversation.
 
 Example:
   ./mapsched live < examples/live.txt"#;
