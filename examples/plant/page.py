@@ -6,7 +6,7 @@ PARTS = ("least", "middle", "p99", "greatest")
 # What refusals mean that a plant can meet.
 REFUSALS = {
     4: "no more flows: as many are live as `flows` of the configuration",
-    5: "too many grants: with the polls of an interval above 40",
+    5: "too many grants: in an interval they would be above `periodic` of the configuration",
     6: "no place: the cycle has none for this flow",
     7: "no flow with this SID is live",
     16: "too late: the clock with its lead is past the next frame",
