@@ -122,7 +122,7 @@ abbrev of_flow : List ℕ → ℕ → Members → Data
 of_flow name n more = object (put (codes "call") (string name) (put (codes "sid") (number (unsigned n)) more))
 
 a_change : (sort : Sort) → call_of (of_flow (codes "change") 17 (put (codes "flow") (flow sort) no_members))
-    ≡ Some (Change 17 (BestEffort 7 0 0))
+    ≡ Some (Change 17 (BestEffort 7 0 0 0))
 unfolding call_of change_call flow_of best_effort_of u8_at u16_at u32_at number_at text_at
 a_change sort = refl
 

@@ -30,7 +30,7 @@ polled_of d = do
   jitter ← u32_at (codes "jitter_us") d
   rate ← u32_at (codes "rate") d
   burst ← u32_at (codes "burst") d
-  Some (Polled interval jitter rate burst)
+  Some (Polled interval jitter rate burst peak)
 
 -- a best effort flow
 unfoldable pub best_effort_of : Data → Option FlowSpec
@@ -38,7 +38,7 @@ best_effort_of d = do
   priority ← u8_at (codes "priority") d
   rate ← u32_at (codes "rate") d
   burst ← u32_at (codes "burst") d
-  Some (BestEffort priority rate burst)
+  Some (BestEffort priority rate burst peak)
 
 -- the flow that an object stands for, by its kind
 unfoldable pub flow_of : Data → Option FlowSpec

@@ -12,7 +12,7 @@ use Rattle.sched_calls.proofs.Base.{base}
 abbrev pub under_ceiling : List Grant → LiveFlow
 under_ceiling grants = record {
   sid = 17;
-  spec = BestEffort 3 64000 1600;
+  spec = BestEffort 3 64000 1600 0;
   asked = 3000;
   batches = one_request 3000 801;
   grants = grants;
@@ -115,7 +115,7 @@ a_flow_at_its_ceiling_is_not_eligible e = let all = e.takes.ceiling (lit< tt) 0 
 
 -- the flow with two grants, polled each five frames under the same ceiling
 abbrev pub polled_limited : LiveFlow
-polled_limited = record limited { spec = Polled 5000 0 64000 1600 }
+polled_limited = record limited { spec = Polled 5000 0 64000 1600 0 }
 
 polled_may_take : (bytes : ℕ) → bytes ≤ 528 → MayTake base polled_limited 924 36 bytes
 polled_may_take bytes few = record { ceiling = λ positive. kept bytes few; fits = omega arith }
@@ -132,6 +132,6 @@ the_third_grant_of_a_polled_flow_is_at_the_ceiling_to_the_byte = record {
 
 -- and a frame later it is not eligible
 pub a_polled_flow_at_its_ceiling_is_not_eligible :
-    IsEligible base 964 36 (record exhausted { spec = Polled 5000 0 64000 1600 }) → ⊥
+    IsEligible base 964 36 (record exhausted { spec = Polled 5000 0 64000 1600 0 }) → ⊥
 a_polled_flow_at_its_ceiling_is_not_eligible e =
     let all = e.takes.ceiling (lit< tt) 0 3 (lit≤ tt) (lit< tt) in omega arith

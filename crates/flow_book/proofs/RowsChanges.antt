@@ -16,7 +16,7 @@ use Rattle.flow_book.proofs.Unlimited.{MayGrant-unlimited}
 abbrev served_in_part : LiveFlow
 served_in_part = record {
   sid = 17;
-  spec = BestEffort 3 0 0;
+  spec = BestEffort 3 0 0 0;
   asked = 1000;
   batches = one_request 1000 801;
   grants = grant 844 544 ∷ [];
@@ -70,7 +70,7 @@ an_ask_after_none_is_the_first = refl
 
 -- the flow with two grants of 544 bytes, and bursts of 600 bytes from now on
 abbrev other_burst : LiveFlow
-other_burst = with_spec (BestEffort 3 64000 600) limited
+other_burst = with_spec (BestEffort 3 64000 600 0) limited
 
 -- its two grants came before the present period, of which the next one is the first
 pub another_burst_begins_a_period : (other_burst.earlier ≡ 2) × (in_period other_burst ≡ [])
@@ -78,8 +78,8 @@ pub another_burst_begins_a_period : (other_burst.earlier ≡ 2) × (in_period ot
 another_burst_begins_a_period = (refl, refl, refl)
 
 -- another rate begins one too, and so does the one before again
-pub another_rate_begins_a_period : ((with_spec (BestEffort 3 128000 1600) limited).earlier ≡ 2)
-    × ((with_spec (BestEffort 3 64000 1600) (with_grant (grant 924 544) other_burst)).earlier ≡ 3)
+pub another_rate_begins_a_period : ((with_spec (BestEffort 3 128000 1600 0) limited).earlier ≡ 2)
+    × ((with_spec (BestEffort 3 64000 1600 0) (with_grant (grant 924 544) other_burst)).earlier ≡ 3)
 another_rate_begins_a_period = (refl, refl)
 
 -- at 924 it has the whole burst: 600 bytes
@@ -103,7 +103,7 @@ the_first_grant_of_a_period_fills_the_room = record {
 
 -- the flow with two grants, and priority 5 from now on
 abbrev other_priority : LiveFlow
-other_priority = with_spec (BestEffort 5 64000 1600) limited
+other_priority = with_spec (BestEffort 5 64000 1600 0) limited
 
 -- its period goes on
 pub another_priority_begins_no_period : (other_priority.earlier ≡ 0) × (in_period other_priority ≡ limited.grants)
@@ -123,6 +123,6 @@ the_third_grant_after_another_priority_is_at_the_ceiling = record {
 
 -- it is served before a flow of priority 4, and was served after it
 pub a_higher_priority_is_served_earlier :
-    (is_before other_priority (record limited { sid = 16; spec = BestEffort 4 64000 1600 }) ≡ true)
-    × (is_before limited (record limited { sid = 16; spec = BestEffort 4 64000 1600 }) ≡ false)
+    (is_before other_priority (record limited { sid = 16; spec = BestEffort 4 64000 1600 0 }) ≡ true)
+    × (is_before limited (record limited { sid = 16; spec = BestEffort 4 64000 1600 0 }) ≡ false)
 a_higher_priority_is_served_earlier = (refl, refl)

@@ -10,11 +10,11 @@ use Rattle.flow_book.proofs.Unlimited.{IsEligible-unlimited}
 
 -- a flow of priority 1 with 544 bytes to be granted
 abbrev pub low : LiveFlow
-low = record { sid = 20; spec = BestEffort 1 0 0; asked = 544; batches = no_batches; grants = []; earlier = 0 }
+low = record { sid = 20; spec = BestEffort 1 0 0 0; asked = 544; batches = no_batches; grants = []; earlier = 0 }
 
 -- a flow of priority 5 with as many
 abbrev pub high : LiveFlow
-high = record { sid = 21; spec = BestEffort 5 0 0; asked = 544; batches = no_batches; grants = []; earlier = 0 }
+high = record { sid = 21; spec = BestEffort 5 0 0 0; asked = 544; batches = no_batches; grants = []; earlier = 0 }
 
 -- either may be served behind the request region
 low_is_eligible : IsEligible base 844 36 low
@@ -42,7 +42,7 @@ the_lower_priority_is_not_next next = elim (next.first.1.0 high_is_eligible) [
 abbrev pub lower_sid : LiveFlow
 lower_sid = record {
   sid = 20;
-  spec = BestEffort 3 0 0;
+  spec = BestEffort 3 0 0 0;
   asked = 1000;
   batches = one_request 1000 801;
   grants = [];
@@ -63,12 +63,12 @@ the_lower_sid_is_next = record {
 
 -- a flow of priority 7, the highest, with 544 bytes to be granted
 abbrev pub highest : LiveFlow
-highest = record { sid = 20; spec = BestEffort 7 0 0; asked = 544; batches = no_batches; grants = []; earlier = 0 }
+highest = record { sid = 20; spec = BestEffort 7 0 0 0; asked = 544; batches = no_batches; grants = []; earlier = 0 }
 
 -- a polled flow of a higher SID with as many
 abbrev pub polled_waiting : LiveFlow
 polled_waiting =
-    record { sid = 21; spec = Polled 5000 0 0 0; asked = 544; batches = no_batches; grants = []; earlier = 0 }
+    record { sid = 21; spec = Polled 5000 0 0 0 0; asked = 544; batches = no_batches; grants = []; earlier = 0 }
 
 polled_is_eligible : IsEligible base 844 36 polled_waiting
 polled_is_eligible = IsEligible-unlimited base polled_waiting 844 36 refl refl (lit< tt) (lit≤ tt)

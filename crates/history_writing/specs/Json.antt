@@ -35,11 +35,11 @@ flow_data (Unsolicited size interval jitter grants) = object (
     member (codes "grants") (count grants) (member (codes "interval_us") (count interval) (
     member (codes "jitter_us") (count jitter) (member (codes "kind") (string (codes "unsolicited")) (
     member (codes "size") (count size) no_members)))))
-flow_data (Polled interval jitter rate burst) = object (
+flow_data (Polled interval jitter rate burst peak) = object (
     member (codes "burst") (count burst) (member (codes "interval_us") (count interval) (
     member (codes "jitter_us") (count jitter) (member (codes "kind") (string (codes "polled")) (
     member (codes "rate") (count rate) no_members)))))
-flow_data (BestEffort priority rate burst) = object (
+flow_data (BestEffort priority rate burst peak) = object (
     member (codes "burst") (count burst) (member (codes "kind") (string (codes "best_effort")) (
     member (codes "priority") (count priority) (member (codes "rate") (count rate) no_members))))
 

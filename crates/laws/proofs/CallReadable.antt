@@ -73,7 +73,7 @@ flow_readable (Unsolicited size interval jitter grants) fits = (
     ),
   ),
 )
-flow_readable (Polled interval jitter rate burst) fits = (
+flow_readable (Polled interval jitter rate burst peak) fits = (
   refl,
   (
     refl,
@@ -89,7 +89,7 @@ flow_readable (Polled interval jitter rate burst) fits = (
     ),
   ),
 )
-flow_readable (BestEffort priority rate burst) fits = (
+flow_readable (BestEffort priority rate burst peak) fits = (
   refl,
   (
     refl,

@@ -137,10 +137,10 @@ module _ (c : Config) (lawful : IsLawful c) (config_fits : ConfigFits c) (h : Li
   admit-good sid (Unsolicited size interval jitter grants) reply none answers =
       let spec = Unsolicited size interval jitter grants in
       placed-good spec reply (places_of c spec lawful refl (passed-admit c h sid spec none).no_fault) answers
-  admit-good sid (Polled interval jitter rate burst) reply none answers =
-      let spec = Polled interval jitter rate burst in
+  admit-good sid (Polled interval jitter rate burst peak) reply none answers =
+      let spec = Polled interval jitter rate burst peak in
       placed-good spec reply (places_of c spec lawful refl (passed-admit c h sid spec none).no_fault) answers
-  admit-good sid (BestEffort priority rate burst) reply none answers =
+  admit-good sid (BestEffort priority rate burst peak) reply none answers =
       subst IsGood (sym answers) (record { fits = tt; short = tt })
 
   sums-good : (f : LiveFlow) (b : Bool) → f.asked ≤ most_bytes * length h → granted f ≤ f.asked

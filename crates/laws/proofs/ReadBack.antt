@@ -46,11 +46,11 @@ flow_of-data (Unsolicited size interval jitter grants) fits =
     rw (below-fits (2 ^ 32) size fits.0) (
     rw (below-fits (2 ^ 32) interval fits.1) (rw (below-fits (2 ^ 32) jitter fits.2)
     (rw (below-fits (2 ^ 8) grants fits.3) refl)))
-flow_of-data (Polled interval jitter rate burst) fits =
+flow_of-data (Polled interval jitter rate burst peak) fits =
     rw (below-fits (2 ^ 32) interval fits.0) (
     rw (below-fits (2 ^ 32) jitter fits.1) (rw (below-fits (2 ^ 32) rate fits.2)
     (rw (below-fits (2 ^ 32) burst fits.3) refl)))
-flow_of-data (BestEffort priority rate burst) fits =
+flow_of-data (BestEffort priority rate burst peak) fits =
     rw (below-fits (2 ^ 8) priority fits.0) (
     rw (below-fits (2 ^ 32) rate fits.1) (rw (below-fits (2 ^ 32) burst fits.2) refl))
 

@@ -19,7 +19,7 @@ use Rattle.map_build.proofs.RowsContention.{filled_by}
 abbrev pub fresh : ℕ → ℕ → ℕ → LiveFlow
 fresh burst asked heard = record {
   sid = 17;
-  spec = BestEffort 3 64000 burst;
+  spec = BestEffort 3 64000 burst 0;
   asked = asked;
   batches = one_request asked heard;
   grants = [];

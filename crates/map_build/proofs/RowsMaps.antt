@@ -65,7 +65,7 @@ the_bytes_of_a_frame_without_flows = refl
 abbrev pub small : LiveFlow
 small = record {
   sid = 17;
-  spec = BestEffort 3 0 0;
+  spec = BestEffort 3 0 0 0;
   asked = 100;
   batches = one_request 100 801;
   grants = [];

@@ -18,7 +18,7 @@ use Rattle.map_build.proofs.RowsMaps.{none_waits}
 
 -- a polled flow of 5000 microseconds that asked nothing yet
 abbrev pub polled : LiveFlow
-polled = record { sid = 9; spec = Polled 5000 0 0 0; asked = 0; batches = no_batches; grants = []; earlier = 0 }
+polled = record { sid = 9; spec = Polled 5000 0 0 0 0; asked = 0; batches = no_batches; grants = []; earlier = 0 }
 
 -- its poll, two minislots behind the request region
 abbrev pub its_poll : Spot

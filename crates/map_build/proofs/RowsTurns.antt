@@ -23,7 +23,7 @@ use Rattle.map_build.proofs.RowsContention.{filled_by}
 abbrev pub lower : List Grant → LiveFlow
 lower grants = record {
   sid = 20;
-  spec = BestEffort 3 0 0;
+  spec = BestEffort 3 0 0 0;
   asked = 1000;
   batches = one_request 1000 801;
   grants = grants;
@@ -34,7 +34,7 @@ lower grants = record {
 abbrev pub higher : List Grant → LiveFlow
 higher grants = record {
   sid = 21;
-  spec = BestEffort 3 0 0;
+  spec = BestEffort 3 0 0 0;
   asked = 1000;
   batches = one_request 1000 801;
   grants = grants;

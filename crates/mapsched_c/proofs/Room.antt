@@ -101,9 +101,9 @@ module _ (c : Config) (conf : IsLawful c) where
       → HasRoom reply
   answer_room h (Admit sid (Unsolicited size interval jitter grants)) reply legal passed is =
       admitted_room h sid (Unsolicited size interval jitter grants) reply passed refl is
-  answer_room h (Admit sid (Polled interval jitter rate burst)) reply legal passed is =
-      admitted_room h sid (Polled interval jitter rate burst) reply passed refl is
-  answer_room h (Admit sid (BestEffort priority rate burst)) reply legal passed e = rw e tt
+  answer_room h (Admit sid (Polled interval jitter rate burst peak)) reply legal passed is =
+      admitted_room h sid (Polled interval jitter rate burst peak) reply passed refl is
+  answer_room h (Admit sid (BestEffort priority rate burst peak)) reply legal passed e = rw e tt
   answer_room h (Remove sid) reply legal passed e = rw e tt
   answer_room h (Ask receiver sid amount heard) reply legal passed e = rw e tt
   answer_room h (Heard receiver upto) reply legal passed e = rw e tt

@@ -98,14 +98,14 @@ plain_flow (Unsolicited size interval jitter grants) = record nothing_called {
   jitter_us = jitter;
   grants = grants;
 }
-plain_flow (Polled interval jitter rate burst) = record nothing_called {
+plain_flow (Polled interval jitter rate burst peak) = record nothing_called {
   flow = POLLED;
   interval_us = interval;
   jitter_us = jitter;
   rate = rate;
   burst = burst;
 }
-plain_flow (BestEffort priority rate burst) = record nothing_called {
+plain_flow (BestEffort priority rate burst peak) = record nothing_called {
   flow = BEST_EFFORT;
   priority = priority;
   rate = rate;

@@ -99,8 +99,8 @@ places_of c (Unsolicited size interval jitter grants) lawful periodic none =
       grants_positive = some.0;
       grants_most = some.1;
     }
-places_of c (Polled interval jitter rate burst) lawful periodic none =
-    let (fits, (whole, (frames, (cycle, rest)))) = each-none c (Polled interval jitter rate burst) none in
+places_of c (Polled interval jitter rate burst peak) lawful periodic none =
+    let (fits, (whole, (frames, (cycle, rest)))) = each-none c (Polled interval jitter rate burst peak) none in
     let bounds = bounds_of c lawful in
     record {
       interval_positive = whole-frames (slots_floor c interval) c.frame (omega arith) frames;
@@ -111,4 +111,4 @@ places_of c (Polled interval jitter rate burst) lawful periodic none =
       grants_positive = omega arith;
       grants_most = omega arith;
     }
-places_of c (BestEffort priority rate burst) lawful periodic none = absurd (cc)
+places_of c (BestEffort priority rate burst peak) lawful periodic none = absurd (cc)

@@ -137,7 +137,7 @@ the_third_flow_stands_a_frame_later = record {
 
 -- polls each five frames, without jitter
 abbrev pub polling : FlowSpec
-polling = Polled 5000 0 0 0
+polling = Polled 5000 0 0 0 0
 
 -- four polls in a cycle
 pub four_polls_stand_behind_the_requests : IsPlacement base [] polling 800 (placement 804 (4 ∷ 4 ∷ 4 ∷ 4 ∷ []))
@@ -166,7 +166,7 @@ the_spots_of_a_polled_flow = (refl, refl)
 
 -- polls each five frames, at most 100 microseconds late: 4 minislots
 abbrev pub late_polling : FlowSpec
-late_polling = Polled 5000 100 0 0
+late_polling = Polled 5000 100 0 0 0
 
 -- where the first flow's grant stands at its nominal time, a poll starts behind it, after that time by its jitter
 pub a_poll_starts_late_by_its_jitter : IsPlacement base (first_placed ∷ []) late_polling 800

@@ -35,7 +35,7 @@ unsolicited-alike c size interval jitter grants size' interval' jitter' grants' 
     (record { periodic = refl; interval = refl; jitter = refl; slots = refl; grants = refl; size = refl })
 
 polled-alike : (c : Config) (interval jitter rate burst interval' jitter' rate' burst' : ℕ) → interval' ≡ interval
-    → jitter' ≡ jitter → ArePlacedAlike c (Polled interval jitter rate burst) (Polled interval' jitter' rate' burst')
+    → jitter' ≡ jitter → ArePlacedAlike c (Polled interval jitter rate burst peak) (Polled interval' jitter' rate' burst' peak')
 polled-alike c interval jitter rate burst interval' jitter' rate' burst' intervals jitters =
     rw (intervals, jitters)
     (record { periodic = refl; interval = refl; jitter = refl; slots = refl; grants = refl; size = refl })
@@ -45,7 +45,7 @@ pub alike-placed : (c : Config) (old new : FlowSpec) → has_place_of old new �
 alike-placed c (Unsolicited size interval jitter grants) (Unsolicited size' interval' jitter' grants') same =
     unsolicited-alike c size interval jitter grants size' interval' jitter' grants' (grind (arith, nat_tests))
     (grind (arith, nat_tests)) (grind (arith, nat_tests)) (grind (arith, nat_tests))
-alike-placed c (Polled interval jitter rate burst) (Polled interval' jitter' rate' burst') same =
+alike-placed c (Polled interval jitter rate burst peak) (Polled interval' jitter' rate' burst' peak') same =
     polled-alike c interval jitter rate burst interval' jitter' rate' burst' (grind (arith, nat_tests))
     (grind (arith, nat_tests))
 alike-placed c old new same = absurd cc

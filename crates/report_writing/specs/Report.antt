@@ -24,14 +24,14 @@ use Rattle.report_writing.specs.Gathered.{AreLivesTold}
 -- the name of a kind of flow
 abbrev pub kind_name : FlowSpec → List ℕ
 kind_name (Unsolicited size interval jitter grants) = codes "unsolicited"
-kind_name (Polled interval jitter rate burst) = codes "polled"
-kind_name (BestEffort priority rate burst) = codes "best_effort"
+kind_name (Polled interval jitter rate burst peak) = codes "polled"
+kind_name (BestEffort priority rate burst peak) = codes "best_effort"
 
 -- the rank of a flow that asks: that of polled flows, or the priority of a best effort one
 abbrev pub rank_of : FlowSpec → Option ℕ
 rank_of (Unsolicited size interval jitter grants) = None
-rank_of (Polled interval jitter rate burst) = Some POLLED
-rank_of (BestEffort priority rate burst) = Some priority
+rank_of (Polled interval jitter rate burst peak) = Some POLLED
+rank_of (BestEffort priority rate burst peak) = Some priority
 
 -- a number that is told in some reports alone
 abbrev pub told_if : Bool → ℕ → Option ℕ

@@ -28,18 +28,18 @@ unfolding first_fault
 a_size_of_nothing_is_refused_first = refl
 
 -- priorities end at 7
-pub a_priority_above_seven_is_refused : first_fault base (BestEffort 8 0 0) ≡ Some Priority
+pub a_priority_above_seven_is_refused : first_fault base (BestEffort 8 0 0 0) ≡ Some Priority
 unfolding first_fault
 a_priority_above_seven_is_refused = refl
 
 -- under a ceiling the burst is the quantum at least
-pub a_burst_below_the_quantum_is_refused : first_fault base (BestEffort 7 1 63) ≡ Some Burst
+pub a_burst_below_the_quantum_is_refused : first_fault base (BestEffort 7 1 63 0) ≡ Some Burst
 unfolding first_fault
 a_burst_below_the_quantum_is_refused = refl
 
 -- that of a polled flow too: 63 bytes are below it, and 64 are not
-pub a_polled_burst_below_the_quantum_is_refused : (first_fault base (Polled 5000 0 1 63) ≡ Some Burst)
-    × (first_fault base (Polled 5000 0 1 64) ≡ None)
+pub a_polled_burst_below_the_quantum_is_refused : (first_fault base (Polled 5000 0 1 63 0) ≡ Some Burst)
+    × (first_fault base (Polled 5000 0 1 64 0) ≡ None)
 unfolding first_fault
 a_polled_burst_below_the_quantum_is_refused = (refl, refl)
 

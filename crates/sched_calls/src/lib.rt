@@ -16,7 +16,7 @@ pub use frame_map::{ByteCounts, FrameMap};
 pub use opportunity::{Header, Opportunity, Usage};
 pub use placement::{Placement, Starts};
 pub use reply::{Entry, MAX_ENTRIES, MAX_WHOLE_HISTORY, Refusal, Reply, Unrecorded};
-pub use spec::{FlowFault, FlowSpec};
+pub use spec::{FlowFault, FlowSpec, PEAK_BURST};
 
 /// The most grants of an unsolicited flow in one nominal interval.
 pub const MAX_GRANTS: u8 = 8;

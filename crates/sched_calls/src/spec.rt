@@ -1,12 +1,13 @@
 //! The parameters of a flow.
 
 ghost use Rattle.std.specs.Prelude.{◌≡◌};
-ghost use Rattle.sched_calls.specs.FlowSpec.{takes_requests, rank_of, rate_of, burst_of, grants_of};
+ghost use Rattle.sched_calls.specs.FlowSpec.{takes_requests, rank_of, rate_of, burst_of, peak_of, grants_of};
 
 use thiserror::Error;
 
 /// The parameters of a service flow, by its upstream scheduling service. Sizes and bursts are in
-/// bytes, intervals and jitters in microseconds, rates in bits per second. A rate of 0 is no ceiling.
+/// bytes, intervals and jitters in microseconds, rates in bits per second. A rate of 0 is no ceiling; a peak
+/// rate of 0 is none either, and any other is a ceiling with a burst of [`PEAK_BURST`] bytes.
 #[derive(Clone, Copy, Debug, PartialEq, Eq)]
 pub enum FlowSpec {
     /// Unsolicited Grant Service: so many grants, from 1 to [`MAX_GRANTS`](crate::MAX_GRANTS), for so many bytes each
@@ -17,21 +18,26 @@ pub enum FlowSpec {
         jitter_us: u32,
         grants: u8,
     },
-    /// Real-time polling: one request opportunity in each nominal interval, and data grants under the
-    /// rate ceiling for what it asks.
+    /// Real-time polling: one request opportunity in each nominal interval, and data grants under both
+    /// ceilings for what it asks.
     Polled {
         interval_us: u32,
         jitter_us: u32,
         rate: u32,
         burst: u32,
+        peak: u32,
     },
-    /// Best effort, by traffic priority from 0 to 7: data grants under the rate ceiling.
+    /// Best effort, by traffic priority from 0 to 7: data grants under both ceilings.
     BestEffort {
         priority: u8,
         rate: u32,
         burst: u32,
+        peak: u32,
     },
 }
+
+/// The most bytes that a flow with a peak rate may be granted at once: a frame of Ethernet with one tag.
+pub const PEAK_BURST: u32 = 1522;
 
 /// Why the parameters of a flow are refused: the first reason in this order. A reason is looked at
 /// only where the kind of flow has the field.
@@ -108,6 +114,16 @@ impl FlowSpec {
         match *self {
             FlowSpec::Unsolicited { .. } => 0,
             FlowSpec::Polled { burst, .. } | FlowSpec::BestEffort { burst, .. } => burst,
+        }
+    }
+
+    /// The peak traffic rate, in bits per second: 0 is no ceiling.
+    pub fn peak(&self) -> u32
+        ensures { result ≡ peak_of self.now }
+    {
+        match *self {
+            FlowSpec::Unsolicited { .. } => 0,
+            FlowSpec::Polled { peak, .. } | FlowSpec::BestEffort { peak, .. } => peak,
         }
     }
 }

@@ -43,9 +43,9 @@ is_full m = nat_le m.config.calls (length (kept_of m)) || nat_le MAX_WHOLE_HISTO
 abbrev pub IsPlaceable : Config → List Entry → FlowSpec → Type 0
 IsPlaceable c h (Unsolicited size interval jitter grants) =
     (p : Placement) × IsPlacement c (table_of h) (Unsolicited size interval jitter grants) (next_after c h) p
-IsPlaceable c h (Polled interval jitter rate burst) =
-    (p : Placement) × IsPlacement c (table_of h) (Polled interval jitter rate burst) (next_after c h) p
-IsPlaceable c h (BestEffort priority rate burst) = Unit {0}
+IsPlaceable c h (Polled interval jitter rate burst peak) =
+    (p : Placement) × IsPlacement c (table_of h) (Polled interval jitter rate burst peak) (next_after c h) p
+IsPlaceable c h (BestEffort priority rate burst peak) = Unit {0}
 
 -- a change of a flow that was given this answers a placement: the one that it keeps, or one beside the others, where
 -- there is one

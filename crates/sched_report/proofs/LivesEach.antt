@@ -42,7 +42,7 @@ is_opening call reply o is = absurd (cc)
 
 -- what a place past the end of a list of lives is read as; no definition depends on it
 abbrev pub no_life : PastLife
-no_life = record { sid = 0; first = BestEffort 0 0 0; upto = []; since = []; ended = true }
+no_life = record { sid = 0; first = BestEffort 0 0 0 0; upto = []; since = []; ended = true }
 
 module _ (c : Config) (ts : List LifeTally) (ls : List PastLife) (are : AreLives c ts ls) where
   -- one of them changes, and what is told of its life stays

@@ -57,8 +57,8 @@ is_grant_to met sid a = a.sid == sid && is_unsolicited (use_of a (meets_at met a
 -- SID: as many as it has now
 abbrev pub unsolicited_at : List Met → FlowSpec → ℕ → Allocation → ℕ
 unsolicited_at met (flows.Unsolicited size interval jitter grants) sid a = if is_grant_to met sid a then size else 0
-unsolicited_at met (flows.Polled interval jitter rate burst) sid a = 0
-unsolicited_at met (flows.BestEffort priority rate burst) sid a = 0
+unsolicited_at met (flows.Polled interval jitter rate burst peak) sid a = 0
+unsolicited_at met (flows.BestEffort priority rate burst peak) sid a = 0
 
 -- the bytes of the unsolicited grants that a MAP has to it, which meets these
 abbrev pub unsolicited_of_map : List Met → FlowSpec → ℕ → FrameMap → ℕ
@@ -84,8 +84,8 @@ unsolicited_in c life = unsolicited_after c life.sid life.first life.upto [] lif
 -- the bytes of the unsolicited grants of a flow, or else of its data grants
 abbrev pub granted_under : FlowSpec → ℕ → ℕ → ℕ
 granted_under (flows.Unsolicited size interval jitter grants) unsolicited bytes = unsolicited
-granted_under (flows.Polled interval jitter rate burst) unsolicited bytes = bytes
-granted_under (flows.BestEffort priority rate burst) unsolicited bytes = bytes
+granted_under (flows.Polled interval jitter rate burst peak) unsolicited bytes = bytes
+granted_under (flows.BestEffort priority rate burst peak) unsolicited bytes = bytes
 
 -- the bytes that a life was granted
 abbrev pub granted_in : Config → PastLife → ℕ
@@ -94,5 +94,5 @@ granted_in c life = granted_under (spec_of life) (unsolicited_in c life) (bytes_
 -- the priority of a best effort flow
 abbrev pub priority_of : FlowSpec → Option ℕ
 priority_of (flows.Unsolicited size interval jitter grants) = None
-priority_of (flows.Polled interval jitter rate burst) = None
-priority_of (flows.BestEffort priority rate burst) = Some priority
+priority_of (flows.Polled interval jitter rate burst peak) = None
+priority_of (flows.BestEffort priority rate burst peak) = Some priority

@@ -49,9 +49,9 @@ admitted-pairs : (c : Config) (h : List Entry) (spec : FlowSpec) (placement : Op
     → AnswersAdmit c h spec (replies.Admitted placement) → is_some placement ≡ is_periodic spec
 admitted-pairs c h (Unsolicited size interval jitter grants) placement answers =
     placed-pairs c h (Unsolicited size interval jitter grants) placement answers
-admitted-pairs c h (Polled interval jitter rate burst) placement answers =
-    placed-pairs c h (Polled interval jitter rate burst) placement answers
-admitted-pairs c h (BestEffort priority rate burst) placement answers = unplaced-pairs placement answers
+admitted-pairs c h (Polled interval jitter rate burst peak) placement answers =
+    placed-pairs c h (Polled interval jitter rate burst peak) placement answers
+admitted-pairs c h (BestEffort priority rate burst peak) placement answers = unplaced-pairs placement answers
 
 step-pairs : (c : Config) (h : List Entry) (spec : FlowSpec) (placement : Option Placement) (o : Option Refusal)
     → MatchOption o (AnswersAdmit c h spec (replies.Admitted placement))
@@ -122,8 +122,8 @@ life_of-pairs c h sid life legal is =
 
 no_grants : (spec : FlowSpec) → is_periodic spec ≡ false → grants_of spec ≡ 0
 no_grants (Unsolicited size interval jitter grants) aperiodic = absurd cc
-no_grants (Polled interval jitter rate burst) aperiodic = absurd cc
-no_grants (BestEffort priority rate burst) aperiodic = refl
+no_grants (Polled interval jitter rate burst peak) aperiodic = absurd cc
+no_grants (BestEffort priority rate burst peak) aperiodic = refl
 
 -- a life's flow has grants where it has a place
 grants-placed : (sid : ℕ) (spec : FlowSpec) (rests : Bool) (placement : Option Placement)

@@ -72,8 +72,8 @@ replaced-spec false bytes heard f = refl
 changed-few : (spec : FlowSpec) (n others most : ℕ) → n ≤ others + grants_of spec
     → (is_periodic spec ≡ true → others + grants_of spec ≤ most) → others ≤ most → n ≤ most
 changed-few (Unsolicited size interval jitter grants) n others most sum room few = omega (arith, sum, room refl)
-changed-few (Polled interval jitter rate burst) n others most sum room few = omega (arith, sum, room refl)
-changed-few (BestEffort priority rate burst) n others most sum room few = omega (arith, sum, few)
+changed-few (Polled interval jitter rate burst peak) n others most sum room few = omega (arith, sum, room refl)
+changed-few (BestEffort priority rate burst peak) n others most sum room few = omega (arith, sum, few)
 
 -- a flow of another SID stays
 same-above : (sid : ℕ) (spec : FlowSpec) (f : LiveFlow) → sid < f.sid
@@ -113,8 +113,8 @@ changed-sum sid spec (f ∷ flows) up =
 few-more : (spec : FlowSpec) (n most : ℕ) → (is_periodic spec ≡ true → n + grants_of spec ≤ most) → n ≤ most
     → grants_of spec + n ≤ most
 few-more (Unsolicited size interval jitter grants) n most room few = omega (arith, room refl)
-few-more (Polled interval jitter rate burst) n most room few = omega (arith, room refl)
-few-more (BestEffort priority rate burst) n most room few = omega (arith, few)
+few-more (Polled interval jitter rate burst peak) n most room few = omega (arith, room refl)
+few-more (BestEffort priority rate burst peak) n most room few = omega (arith, few)
 
 module _ (c : Config) (lawful : IsLawful c) where
   few-after : (h new : List Entry) → EntryChange c h new → periodic_grants c h ≤ c.periodic

@@ -88,9 +88,9 @@ pub answered_place : (c : Config) (h : List Entry) (spec : FlowSpec) (placement 
     → AnswersAdmit c h spec (replies.Admitted placement) → IsPlacedNow c h spec p
 answered_place c h (Unsolicited size interval jitter grants) placement p is answers =
     placed_by c h (Unsolicited size interval jitter grants) placement p refl is answers
-answered_place c h (Polled interval jitter rate burst) placement p is answers =
-    placed_by c h (Polled interval jitter rate burst) placement p refl is answers
-answered_place c h (BestEffort priority rate burst) placement p is answers = absurd (cc)
+answered_place c h (Polled interval jitter rate burst peak) placement p is answers =
+    placed_by c h (Polled interval jitter rate burst peak) placement p refl is answers
+answered_place c h (BestEffort priority rate burst peak) placement p is answers = absurd (cc)
 
 -- a placement that was lawful stays one that was, as the next frame goes on
 later_placed : (c : Config) (slot later : ℕ) (spec : FlowSpec) (p : Placement) → slot ≤ later → WasPlaced c slot spec p

@@ -43,21 +43,21 @@ use Rattle.sched_history.proofs.steps.Passed.{IsKnown, ChangesFlow, passed-chang
 -- flows of one kind are both periodic, or neither
 pub alike-periodic : (spec other : FlowSpec) → is_kind_of spec other ≡ true → is_periodic other ≡ is_periodic spec
 alike-periodic (Unsolicited size interval jitter grants) (Unsolicited size' interval' jitter' grants') kind = refl
-alike-periodic (Polled interval jitter rate burst) (Polled interval' jitter' rate' burst') kind = refl
-alike-periodic (BestEffort priority rate burst) (BestEffort priority' rate' burst') kind = refl
+alike-periodic (Polled interval jitter rate burst peak) (Polled interval' jitter' rate' burst' peak') kind = refl
+alike-periodic (BestEffort priority rate burst peak) (BestEffort priority' rate' burst' peak') kind = refl
 alike-periodic spec other kind = absurd cc
 
 -- and both take requests, or neither
 pub alike-takes : (spec other : FlowSpec) → is_kind_of spec other ≡ true → takes_requests spec ≡ takes_requests other
 alike-takes (Unsolicited size interval jitter grants) (Unsolicited size' interval' jitter' grants') kind = refl
-alike-takes (Polled interval jitter rate burst) (Polled interval' jitter' rate' burst') kind = refl
-alike-takes (BestEffort priority rate burst) (BestEffort priority' rate' burst') kind = refl
+alike-takes (Polled interval jitter rate burst peak) (Polled interval' jitter' rate' burst' peak') kind = refl
+alike-takes (BestEffort priority rate burst peak) (BestEffort priority' rate' burst' peak') kind = refl
 alike-takes spec other kind = absurd cc
 
 -- a flow that keeps its place is periodic
 pub place-periodic : (spec other : FlowSpec) → has_place_of spec other ≡ true → is_periodic other ≡ true
 place-periodic (Unsolicited size interval jitter grants) (Unsolicited size' interval' jitter' grants') same = refl
-place-periodic (Polled interval jitter rate burst) (Polled interval' jitter' rate' burst') same = refl
+place-periodic (Polled interval jitter rate burst peak) (Polled interval' jitter' rate' burst' peak') same = refl
 place-periodic spec other same = absurd cc
 
 above-left : (sid : ℕ) (flows : List LiveFlow) → AllByRecursion (λ g. sid < g.sid) flows → without_flow sid flows ≡ flows

@@ -96,8 +96,8 @@ unplaced-one c h sid (Some life) spec r told answers = unplaced-given c h sid (g
 IsFlat-told : (c : Config) (h : List Entry) (call : Call) (r : Reply) → is_told call ≡ true → Answers c h call r
     → IsFlat r
 IsFlat-told c h (Admit sid (Unsolicited size interval jitter grants)) r told answers = absurd cc
-IsFlat-told c h (Admit sid (Polled interval jitter rate burst)) r told answers = absurd cc
-IsFlat-told c h (Admit sid (BestEffort priority rate burst)) r told answers =
+IsFlat-told c h (Admit sid (Polled interval jitter rate burst peak)) r told answers = absurd cc
+IsFlat-told c h (Admit sid (BestEffort priority rate burst peak)) r told answers =
     IsFlat-as r (replies.Admitted None) answers (flat.Admitted, refl)
 IsFlat-told c h (Remove sid) r told answers = IsFlat-as r replies.Removed answers (flat.Removed, refl)
 IsFlat-told c h (Ask receiver sid amount heard) r told answers = IsFlat-as r replies.Taken answers (flat.Taken, refl)
@@ -138,8 +138,8 @@ told-owns c h call r told answers owns = let is = IsFlat-told c h call r told an
 pub told-one : (c : Config) (h : List Entry) (call : Call) (r r' : Reply) → is_told call ≡ true → Answers c h call r
     → Answers c h call r' → r ≡ r'
 told-one c h (Admit sid (Unsolicited size interval jitter grants)) r r' told answers other = absurd cc
-told-one c h (Admit sid (Polled interval jitter rate burst)) r r' told answers other = absurd cc
-told-one c h (Admit sid (BestEffort priority rate burst)) r r' told answers other = answers ∙ sym other
+told-one c h (Admit sid (Polled interval jitter rate burst peak)) r r' told answers other = absurd cc
+told-one c h (Admit sid (BestEffort priority rate burst peak)) r r' told answers other = answers ∙ sym other
 told-one c h (Remove sid) r r' told answers other = answers ∙ sym other
 told-one c h (Ask receiver sid amount heard) r r' told answers other = answers ∙ sym other
 told-one c h (Heard receiver upto) r r' told answers other = answers ∙ sym other

@@ -192,15 +192,15 @@ module _ (s : State) (h : List Entry) (sid : ℕ) (is_after : IsStateAfter s h) 
 pub answers-best_effort : (c : Config) (h : List Entry) (spec : FlowSpec) → is_periodic spec ≡ false
     → AnswersAdmit c h spec (replies.Admitted None)
 answers-best_effort c h (Unsolicited size interval jitter grants) aperiodic = absurd cc
-answers-best_effort c h (Polled interval jitter rate burst) aperiodic = absurd cc
-answers-best_effort c h (BestEffort priority rate burst) aperiodic = refl
+answers-best_effort c h (Polled interval jitter rate burst peak) aperiodic = absurd cc
+answers-best_effort c h (BestEffort priority rate burst peak) aperiodic = refl
 
 -- a periodic flow is admitted with its place
 pub answers-periodic : (c : Config) (h : List Entry) (spec : FlowSpec) (reply : Reply) → is_periodic spec ≡ true
     → PlacesOrRefuses c h spec reply → AnswersAdmit c h spec reply
 answers-periodic c h (Unsolicited size interval jitter grants) reply periodic answers = answers
-answers-periodic c h (Polled interval jitter rate burst) reply periodic answers = answers
-answers-periodic c h (BestEffort priority rate burst) reply periodic answers = absurd cc
+answers-periodic c h (Polled interval jitter rate burst peak) reply periodic answers = answers
+answers-periodic c h (BestEffort priority rate burst peak) reply periodic answers = absurd cc
 
 -- a placement in the table is one after the history
 pub placement-after : (s : State) (h : List Entry) (spec : FlowSpec) (p : Placement) → IsStateAfter s h
@@ -216,9 +216,9 @@ pub IsPlaceable-after : (s : State) (h : List Entry) (spec : FlowSpec) (p : Plac
     → IsPlacement s.table.config s.table.placed spec s.next p → IsPlaceable s.config h spec
 IsPlaceable-after s h (Unsolicited size interval jitter grants) p is_after lawful =
     (p, placement-after s h (Unsolicited size interval jitter grants) p is_after lawful)
-IsPlaceable-after s h (Polled interval jitter rate burst) p is_after lawful =
-    (p, placement-after s h (Polled interval jitter rate burst) p is_after lawful)
-IsPlaceable-after s h (BestEffort priority rate burst) p is_after lawful = tt
+IsPlaceable-after s h (Polled interval jitter rate burst peak) p is_after lawful =
+    (p, placement-after s h (Polled interval jitter rate burst peak) p is_after lawful)
+IsPlaceable-after s h (BestEffort priority rate burst peak) p is_after lawful = tt
 
 -- where the table has no place for it there is none after the history
 pub no_placement-after : (s : State) (h : List Entry) (spec : FlowSpec) → IsStateAfter s h

@@ -106,11 +106,11 @@ module _ (c : Config) (lawful : IsLawful c) (stamp : Stamp) (h : List Entry) whe
       → EntryChange c h (after (calls.Admit sid spec) reply)
   admits sid (Unsolicited size interval jitter grants) reply may answers =
       placed sid (Unsolicited size interval jitter grants) reply may answers
-  admits sid (Polled interval jitter rate burst) reply may answers =
-      placed sid (Polled interval jitter rate burst) reply may answers
-  admits sid (BestEffort priority rate burst) reply may answers =
-      by_reply (calls.Admit sid (BestEffort priority rate burst)) reply (replies.Admitted None) answers
-      (admitted sid (BestEffort priority rate burst) None may)
+  admits sid (Polled interval jitter rate burst peak) reply may answers =
+      placed sid (Polled interval jitter rate burst peak) reply may answers
+  admits sid (BestEffort priority rate burst peak) reply may answers =
+      by_reply (calls.Admit sid (BestEffort priority rate burst peak)) reply (replies.Admitted None) answers
+      (admitted sid (BestEffort priority rate burst peak) None may)
 
   told : (sid asked granted left : ℕ)
       → EntryChange c h (after (calls.Status sid) (replies.Flow asked granted left))
