@@ -1,4 +1,4 @@
--- From what the ceiling leaves to a flow follow its amount and whether it may be served.
+-- From what the ceilings leave to a flow follow its amount and whether it may be served.
 use Rattle.std.proofs.Common.{◌≡◌, sym, subst, ℕ, ◌<◌, ◌≤◌, min, true, nat_eq, IsTrue, ◌↔◌, inl, inr, arith}
 use Rattle.std.proofs.lemmas.Bool.{cases_eq}
 use Rattle.std.proofs.lemmas.Bool.Decides.{nat_tests}
@@ -8,10 +8,13 @@ use Rattle.minislots.specs.Bursts.{HasBursts}
 use Rattle.minislots.specs.Units.{slots_for, bytes_in}
 use Rattle.minislots.proofs.Bounds.{bounds_of}
 use Rattle.minislots.proofs.UnitLaws.{fits_bytes, fits_slots}
-use Rattle.sched_calls.specs.FlowSpec.{takes_requests, rate_of, burst_of}
-use Rattle.flow_book.specs.Flows.{LiveFlow, outstanding, in_period}
+use Rattle.sched_calls.specs.FlowSpec.{takes_requests, rate_of, burst_of, peak_of}
+use Rattle.sched_calls.specs.declared.spec.TheConstants.{PEAK_BURST}
+use Rattle.flow_book.specs.declared.limits.Limits.{Limits}
+use Rattle.flow_book.specs.Flows.{LiveFlow, outstanding, in_period, in_peak_period}
 use Rattle.flow_book.specs.Choice.{KeepsWith, MayGrant, IsAmount, IsMost, IsEligible}
-use Rattle.flow_book.specs.Bucket.{BucketView, HaveStartedBy, StandsFor, most_of}
+use Rattle.flow_book.specs.Bucket.{HaveStartedBy, most_of}
+use Rattle.flow_book.specs.Limits.{AreLimitsOf, most_in}
 use Rattle.flow_book.proofs.Buckets.{most-within, most-kept, most-greatest}
 use Rattle.flow_book.proofs.Started.{started-drop}
 
@@ -66,29 +69,41 @@ module _ (c : Config) (f : LiveFlow) (start room limit most : ℕ) where
       grind (arith, nat_tests) in
       (whole, same)
 
--- of the bytes up to a limit the flow may have what its bucket has
-pub bucket-within : (c : Config) (f : LiveFlow) (b : BucketView) (start room limit most : ℕ)
-    → StandsFor c (rate_of f.spec) (burst_of f.spec) b (in_period f) → HaveStartedBy start f.grants
-    → most ≡ most_of b start limit → IsWithin c f start room limit most
-bucket-within c f b start room limit most stands started is =
+-- of the bytes up to a limit the flow may have what its buckets have
+pub limits-within : (c : Config) (f : LiveFlow) (l : Limits) (start room limit most : ℕ)
+    → AreLimitsOf c f l → HaveStartedBy start f.grants
+    → most ≡ most_in l start limit → IsWithin c f start room limit most
+limits-within c f l start room limit most are started is =
     let rate = rate_of f.spec in
     let burst = burst_of f.spec in
     let grants = in_period f in
     let began = started-drop start f.earlier f.grants started in
-    rw is (record {
-      within = most-within c rate burst b grants stands start 0 began limit;
-      keeps = λ n some le. most-kept c rate burst b grants stands start n began limit le;
-      greatest = λ n some le kept. most-greatest c rate burst b grants stands start n began limit le kept;
-    })
+    let peak = peak_of f.spec in
+    let recent = in_peak_period f in
+    let began' = started-drop start f.peak_earlier f.grants started in
+    let less = most_of l.peak start limit in
+    let under : less ≤ limit = most-within c peak PEAK_BURST l.peak recent are.peak start 0 began' limit in
+    let lower : most ≤ less = rw is (most-within c rate burst l.sustained grants are.sustained start 0 began less) in
+    record {
+      within = omega (arith, under, lower);
+      keeps = λ n some le. record {
+        sustained = most-kept c rate burst l.sustained grants are.sustained start n began less (omega (arith, le, is));
+        peak = most-kept c peak PEAK_BURST l.peak recent are.peak start n began' limit (omega (arith, le, lower));
+      };
+      greatest = λ n some le kept.
+          let fits = most-greatest c peak PEAK_BURST l.peak recent are.peak start n began' limit le kept.peak in
+          let all = most-greatest c rate burst l.sustained grants are.sustained start n began less fits kept.sustained in
+          omega (arith, all, is);
+    }
 
--- so with the limit of what is outstanding, capped and fits, what the bucket has are the most
-pub most-in-bucket : (c : Config) (f : LiveFlow) (b : BucketView) (start room limit most : ℕ) → IsLawful c
+-- so with the limit of what is outstanding, capped and fits, what the buckets have are the most
+pub most-in-limits : (c : Config) (f : LiveFlow) (l : Limits) (start room limit most : ℕ) → IsLawful c
     → limit ≡ min (min (outstanding f) c.grant_cap) (bytes_in c room)
-    → StandsFor c (rate_of f.spec) (burst_of f.spec) b (in_period f) → HaveStartedBy start f.grants
-    → most ≡ most_of b start limit → IsMost c f start room most
-most-in-bucket c f b start room limit most lawful limits stands started is =
+    → AreLimitsOf c f l → HaveStartedBy start f.grants
+    → most ≡ most_in l start limit → IsMost c f start room most
+most-in-limits c f l start room limit most lawful limits are started is =
     most-is c f start room limit most (bounds_of c lawful).bursts limits
-    (bucket-within c f b start room limit most stands started is)
+    (limits-within c f l start room limit most are started is)
 
 -- the cap is the same before and after it is asked what fits
 pub capped-once : (limit asked cap room left : ℕ) → room ≡ min left cap → limit ≡ min (min asked cap) room

@@ -20,7 +20,8 @@ slow ticks rate few low = omega (arith, mul-lt ticks rate 129 (2 ^ 32) (omega ar
 most-limit : (b : BucketView) (slot limit : ℕ) → b.per_slot ≡ 0 → most_of b slot limit ≡ limit
 most-limit b slot limit none = rw none refl
 
-most-limited : (b : BucketView) (slot limit : ℕ) → b.per_slot ≢ 0
+-- with a ceiling the most are those of its level
+pub most-limited : (b : BucketView) (slot limit : ℕ) → b.per_slot ≢ 0
     → most_of b slot limit ≡ min limit (level_of b slot / 1280000)
 most-limited b slot limit some =
     let fails : (b.per_slot == 0) ≡ false = grind (arith, nat_tests) in

@@ -13,9 +13,10 @@ use Rattle.flow_book.specs.declared.flow.Grant.{Grant}
 use Rattle.flow_book.specs.Flows.{LiveFlow, with_grant}
 use Rattle.flow_book.specs.Choice.{MayGrant}
 use Rattle.flow_book.proofs.Windows.{bytes-one}
+use Rattle.flow_book.specs.Limits.{HasPeriods}
 use Rattle.flow_book.specs.Entry.{live, IsSoundFlow, IsSoundBook}
 use Rattle.flow_book.specs.Book.{Ascend, Room, BookView, changed, with_asked, with_replaced}
-use Rattle.flow_book.proofs.Periods.{period-more}
+use Rattle.flow_book.proofs.Periods.{period-more, peak-more}
 use Rattle.flow_book.proofs.Places.{StandsAt, all-found}
 
 -- SIDs ascend where a flow takes the place of one with its SID
@@ -99,12 +100,12 @@ placed-is_sound c sid items i f are is =
 -- to ask for more keeps a flow sound
 pub asked-sound : (c : Config) (bytes heard : ℕ) (f : LiveFlow) → IsSoundFlow c f
     → IsSoundFlow c (with_asked bytes heard f)
-asked-sound c bytes heard f is = record { within = omega (arith, is.within); kept = is.kept }
+asked-sound c bytes heard f is = record { within = omega (arith, is.within); kept = is.kept; peak_kept = is.peak_kept }
 
 -- so does to ask for other bytes in the place of those outstanding
 pub replaced-sound : (c : Config) (bytes heard : ℕ) (f : LiveFlow) → IsSoundFlow c f
     → IsSoundFlow c (with_replaced bytes heard f)
-replaced-sound c bytes heard f is = record { within = omega arith; kept = is.kept }
+replaced-sound c bytes heard f is = record { within = omega arith; kept = is.kept; peak_kept = is.peak_kept }
 
 -- a book of these flows and rooms
 abbrev pub view-of : Config → List LiveFlow → List Room → BookView
@@ -116,11 +117,12 @@ pub same-view : (c : Config) (fs gs : List LiveFlow) (rs ss : List Room) → fs 
 same-view c fs gs rs ss flows rooms = rw (flows, rooms)
 
 -- a lawful grant keeps a flow sound
-pub granted-sound : (c : Config) (start bytes room : ℕ) (f : LiveFlow) → IsSoundFlow c f → f.earlier ≤ length f.grants
+pub granted-sound : (c : Config) (start bytes room : ℕ) (f : LiveFlow) → IsSoundFlow c f → HasPeriods f
     → MayGrant c f start room bytes → IsSoundFlow c (with_grant (record { start = start; bytes = bytes }) f)
-granted-sound c start bytes room f is few may =
+granted-sound c start bytes room f is has may =
     let all = sum_by-append (λ (g : Grant). g.bytes) f.grants (record { start = start; bytes = bytes } ∷ []) in
     record {
       within = omega (arith, is.within, may.asked, bytes-one start bytes);
-      kept = rw (period-more f (record { start = start; bytes = bytes }) few) may.taken.ceiling;
+      kept = rw (period-more f (record { start = start; bytes = bytes }) has.sustained) may.taken.ceiling.sustained;
+      peak_kept = rw (peak-more f (record { start = start; bytes = bytes }) has.peak) may.taken.ceiling.peak;
     }

@@ -24,6 +24,7 @@ pub mod RowsBucket
 pub mod RowsCeiling
 pub mod RowsChanges
 pub mod RowsChoice
+pub mod RowsPeak
 pub mod NextServed
 pub mod Serving
 pub mod InLine

@@ -31,6 +31,6 @@ module _ (c : Config) (items : List Flow) (start room i : ℕ) (f : Flow) where
       → IsAmount c (live f) start room bytes → KeepsSums c e → IsBook c (set items i e)
   served-book bytes e are is more amount keeps =
       let sound = placed-is_sound c f.sid items i f are.sound is.stands in
-      let few = (placed-sums c f.sid items i f are is.stands).period in
+      let has = (placed-sums c f.sid items i f are is.stands).periods in
       placed-book c f.sid items i e f are is.stands (ap (λ (g : LiveFlow). g.sid) more)
-      (rw more (granted-sound c start bytes room (live f) sound few amount.allowed)) keeps
+      (rw more (granted-sound c start bytes room (live f) sound has amount.allowed)) keeps

@@ -15,8 +15,9 @@ use Rattle.sched_calls.specs.FlowSpec.{rank_of, rate_of, burst_of}
 use Rattle.flow_book.specs.declared.flow.Flow.{Flow}
 use Rattle.flow_book.specs.declared.flow.Grant.{Grant}
 use Rattle.flow_book.specs.declared.queue.Waiting.{Waiting}
-use Rattle.flow_book.specs.Flows.{LiveFlow, in_period, with_grant, outstanding}
-use Rattle.flow_book.specs.Bucket.{HaveStartedBy, StandsFor, IsSettled, most_of, HasOneMore, StaysSettled}
+use Rattle.flow_book.specs.Flows.{LiveFlow, with_grant, outstanding}
+use Rattle.flow_book.specs.Bucket.{HaveStartedBy}
+use Rattle.flow_book.specs.Limits.{HasBegunBy, AreLimitsOf, AreSettled, HaveOneMore, StaySettled, most_in}
 use Rattle.flow_book.specs.Choice.{last_start, IsAmount, HasStartedBy}
 use Rattle.flow_book.specs.Entry.{live, IsBook, IsTurn, KeepsSums}
 use Rattle.flow_book.specs.Book.{changed}
@@ -27,11 +28,11 @@ use Rattle.flow_book.specs.declared.parts.Standing.TheVariants.{Queued, Served}
 use Rattle.flow_book.specs.Parts.{one_at, HasStartedIn, IsNextIn, IsPutIn, IsPutBack, IsPut}
 use Rattle.flow_book.specs.Overlay.{IsSameFlow, IsOverlay}
 use Rattle.flow_book.specs.Taking.{CanBeTaken}
-use Rattle.flow_book.proofs.Amounts.{amount-of_most, most-in-bucket}
+use Rattle.flow_book.proofs.Amounts.{amount-of_most, most-in-limits}
 use Rattle.flow_book.proofs.Changes.{placed-changed}
 use Rattle.flow_book.proofs.InParts.{served-each, order-none}
 use Rattle.flow_book.proofs.NextServed.{IsFound, found-next, served-book}
-use Rattle.flow_book.proofs.Periods.{period-more, since-started}
+use Rattle.flow_book.proofs.Periods.{periods-more, limits-more, settled-more, begun-by}
 use Rattle.flow_book.proofs.Started.{started-drop}
 use Rattle.flow_book.proofs.Queues.{with-one, in-new, in-old, in-one, among-as, among-same, among-others, same-but}
 use Rattle.flow_book.proofs.Queues.{all-both, stands-at, put-among, pass-among}
@@ -131,11 +132,11 @@ module _ (c : Config) (items : List Flow) (queue served : List Waiting) (start r
   next-stands =
       one-stands c items queue served start at w has here (next-waits c items queue served start room at w here next)
 
-  -- so its bucket is counted from a minislot on that is no later
-  pub next-since : w.bucket.since ≤ start
-  next-since =
-      rw (sym next-stands.bucket)
-      (since-started c next-stands.flow start next-stands.keeps next-stands.started)
+  -- so its buckets are counted from a minislot on that is no later
+  pub next-begun : HasBegunBy start w.limits
+  next-begun =
+      rw (sym next-stands.limits)
+      (begun-by c (live next-stands.flow) next-stands.flow.limits start next-stands.keeps.limits next-stands.started)
 
   -- and its turn after a grant is no earlier
   pub next-later : (n : ℕ) → ((rank : ℕ) (last : Option ℕ) (sid : ℕ) → IsTurn rank last sid w.turn
@@ -165,9 +166,9 @@ module _ (c : Config) (items : List Flow) (queue served queue_after served_after
     (start room bytes more : ℕ) (at : Standing) (w new : Waiting) (lawful : IsLawful c)
     (has : HasStartedIn c items queue served start) (here : one_at at queue served ≡ Some w)
     (first : IsNextIn c items queue served start room at)
-    (cap : more ≡ min (bytes_in c room) c.grant_cap) (most : bytes ≡ most_of w.bucket start (min w.wants more))
+    (cap : more ≡ min (bytes_in c room) c.grant_cap) (most : bytes ≡ most_in w.limits start (min w.wants more))
     (wants : new.wants + bytes ≡ w.wants) (same : new.place ≡ w.place)
-    (bucket : HasOneMore w.bucket new.bucket start bytes) (settled : StaysSettled w.bucket new.bucket start bytes)
+    (limits : HaveOneMore w.limits new.limits start bytes) (settled : StaySettled w.limits new.limits start bytes)
     (turn : (rank : ℕ) (last : Option ℕ) (sid : ℕ) → IsTurn rank last sid w.turn
     → IsTurn rank (Some start) sid new.turn) where
   stands : StandsIn c items start w
@@ -197,25 +198,18 @@ module _ (c : Config) (items : List Flow) (queue served queue_after served_after
   amount : IsAmount c (live f) start room bytes
   amount =
       amount-of_most c lawful start room (live f) bytes found.next.eligible
-      (most-in-bucket c (live f) f.bucket start room (min w.wants more) bytes lawful
-      (omega (arith, cap, stands.wants)) stands.keeps.bucket stands.started
-      (most ∙ ap (λ b. most_of b start (min w.wants more)) (sym stands.bucket)))
+      (most-in-limits c (live f) f.limits start room (min w.wants more) bytes lawful
+      (omega (arith, cap, stands.wants)) stands.keeps.limits stands.started
+      (most ∙ ap (λ l. most_in l start (min w.wants more)) (sym stands.limits)))
 
   -- it with the grant
   abbrev granted-flow : Flow
   granted-flow = record f {
     turn = new.turn;
     granted = f.granted + bytes;
-    bucket = new.bucket;
+    limits = new.limits;
     grants = record f.grants { items = f.grants.items ++ one_more start bytes };
   }
-
-  more-period : in_period (live granted-flow) ≡ in_period (live f) ++ one_more start bytes
-  more-period = period-more (live f) (record { start = start; bytes = bytes }) stands.keeps.period
-
-  -- those of the present period have started
-  began : HaveStartedBy start (in_period (live f))
-  began = started-drop start f.period.earlier f.grants.items stands.started
 
   keeps : KeepsSums c granted-flow
   keeps = record {
@@ -227,16 +221,11 @@ module _ (c : Config) (items : List Flow) (queue served queue_after served_after
           (turn (rank_of f.spec) (last_start f.grants.items) f.sid
           (subst (IsTurn (rank_of f.spec) (last_start f.grants.items) f.sid) stands.turn stands.keeps.turn.1)),
     );
-    period = omega (
-      arith,
-      stands.keeps.period,
-      length_push f.grants.items (record { start = start; bytes = bytes }),
-    );
-    bucket = rw more-period (bucket c (rate_of f.spec) (burst_of f.spec) (in_period (live f))
-        (subst (λ b. StandsFor c (rate_of f.spec) (burst_of f.spec) b (in_period (live f))) stands.bucket
-        stands.keeps.bucket) began);
-    settled = rw more-period (settled (in_period (live f))
-        (subst (λ b. IsSettled b (in_period (live f))) stands.bucket stands.keeps.settled) began);
+    periods = periods-more (live f) (record { start = start; bytes = bytes }) stands.keeps.periods;
+    limits = limits-more c (live f) w.limits new.limits start bytes stands.keeps.periods stands.started
+        (subst (AreLimitsOf c (live f)) stands.limits stands.keeps.limits) limits;
+    settled = settled-more c (live f) w.limits new.limits start bytes stands.keeps.periods stands.started
+        (subst (AreSettled (live f)) stands.limits stands.keeps.settled) settled;
   }
 
   -- the flows with it

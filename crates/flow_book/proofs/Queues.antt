@@ -17,7 +17,7 @@ use Rattle.flow_book.specs.declared.queue.Waiting.{Waiting}
 use Rattle.sched_calls.specs.FlowSpec.{rank_of}
 use Rattle.flow_book.specs.Choice.{last_start}
 use Rattle.flow_book.specs.Flows.{outstanding}
-use Rattle.flow_book.specs.Bucket.{BucketView}
+use Rattle.flow_book.specs.declared.limits.Limits.{Limits}
 use Rattle.flow_book.specs.Entry.{live, IsBook, KeepsSums, KnowsTurn}
 use Rattle.sched_calls.specs.Sids.{AscendBy, put_in}
 use Rattle.flow_book.specs.Queue.{entry_of, IsAt, IsIn, IsQueue, IsQueueAmong, AreSameBut}
@@ -102,14 +102,14 @@ in-removed place (w ∷ queue) zero here = inr here
 in-removed place (w ∷ queue) (suc i) (inl here) = inl here
 in-removed place (w ∷ queue) (suc i) (inr rest) = inr (in-removed place queue i rest)
 
-some-within : (items : List Flow) (place : ℕ) (e : ℕ × ℕ × BucketView) → option_map entry_of (slice_get items place) ≡ Some e
+some-within : (items : List Flow) (place : ℕ) (e : ℕ × ℕ × Limits) → option_map entry_of (slice_get items place) ≡ Some e
     → place < length items
 some-within [] place e at = absurd (cc)
 some-within (f ∷ items) zero e at = omega arith
 some-within (f ∷ items) (suc place) e at = omega (arith, some-within items place e at)
 
 -- what is the same as some is the same
-pub same-some : (d e : ℕ × ℕ × BucketView) → Some d ≡ Some e → d ≡ e
+pub same-some : (d e : ℕ × ℕ × Limits) → Some d ≡ Some e → d ≡ e
 same-some d e same = cc
 
 -- where none in the queue has the place none has it
@@ -125,37 +125,37 @@ none-at place queue none =
 module _ (items : List Flow) where
   -- its place is one of the flows'
   pub at-within : (w : Waiting) → IsAt items w → w.place < length items
-  at-within w at = some-within items w.place (w.turn, w.wants, w.bucket) at
+  at-within w at = some-within items w.place (w.turn, w.wants, w.limits) at
 
   -- there is a flow at its place
   pub flow-at : (w : Waiting) (o : Option Flow) → slice_get items w.place ≡ o → IsAt items w
       → (f : Flow) × (slice_get items w.place ≡ Some f)
   flow-at w None e at =
-      let no : option_map entry_of None ≡ Some (w.turn, w.wants, w.bucket) = ap (option_map entry_of) (sym e) ∙ at in absurd (cc)
+      let no : option_map entry_of None ≡ Some (w.turn, w.wants, w.limits) = ap (option_map entry_of) (sym e) ∙ at in absurd (cc)
   flow-at w (Some f) e at = (f, e)
 
   -- its entry
   pub entry-at : (w : Waiting) (f : Flow) → IsAt items w → slice_get items w.place ≡ Some f
-      → entry_of f ≡ (w.turn, w.wants, w.bucket)
-  entry-at w f at found = same-some (entry_of f) (w.turn, w.wants, w.bucket) (ap (option_map entry_of) (sym found) ∙ at)
+      → entry_of f ≡ (w.turn, w.wants, w.limits)
+  entry-at w f at found = same-some (entry_of f) (w.turn, w.wants, w.limits) (ap (option_map entry_of) (sym found) ∙ at)
 
   -- the flow that waits has this turn
   pub turn-at : (w : Waiting) (f : Flow) → IsAt items w → slice_get items w.place ≡ Some f → f.turn ≡ w.turn
-  turn-at w f at found = ap (λ (e : ℕ × ℕ × BucketView). e.0) (entry-at w f at found)
+  turn-at w f at found = ap (λ (e : ℕ × ℕ × Limits). e.0) (entry-at w f at found)
 
   -- and waits for these bytes
   pub wants-at : (w : Waiting) (f : Flow) → IsAt items w → slice_get items w.place ≡ Some f
       → outstanding (live f) ≡ w.wants
-  wants-at w f at found = ap (λ (e : ℕ × ℕ × BucketView). e.1) (entry-at w f at found)
+  wants-at w f at found = ap (λ (e : ℕ × ℕ × Limits). e.1) (entry-at w f at found)
 
-  -- and it has this bucket
-  pub bucket-at : (w : Waiting) (f : Flow) → IsAt items w → slice_get items w.place ≡ Some f → f.bucket ≡ w.bucket
-  bucket-at w f at found = ap (λ (e : ℕ × ℕ × BucketView). e.2) (entry-at w f at found)
+  -- and its ceilings leave this
+  pub limits-at : (w : Waiting) (f : Flow) → IsAt items w → slice_get items w.place ≡ Some f → f.limits ≡ w.limits
+  limits-at w f at found = ap (λ (e : ℕ × ℕ × Limits). e.2) (entry-at w f at found)
 
   -- at one place there is one turn
   pub same-turn : (v w : Waiting) → IsAt items v → IsAt items w → v.place ≡ w.place → v.turn ≡ w.turn
   same-turn v w at at' same =
-      ap (λ (e : ℕ × ℕ × BucketView). e.0) (same-some (v.turn, v.wants, v.bucket) (w.turn, w.wants, w.bucket)
+      ap (λ (e : ℕ × ℕ × Limits). e.0) (same-some (v.turn, v.wants, v.limits) (w.turn, w.wants, w.limits)
       (sym at ∙ ap (λ k. option_map entry_of (slice_get items k)) same ∙ at'))
 
   later : (w : Waiting) (queue : List Waiting) → IsAt items w → AllByRecursion (IsAt items) queue
@@ -256,12 +256,12 @@ same-but (f ∷ items) (suc place) e (suc other) differ = same-but items place e
 
 -- a flow that is put at a place has there what is told of it
 pub stands-at : (items : List Flow) (w : Waiting) (place : ℕ) (e : Flow) → place < length items → w.turn ≡ e.turn
-    → w.wants ≡ outstanding (live e) → w.bucket ≡ e.bucket → w.place ≡ place → IsAt (set items place e) w
-stands-at items w place e lt turn wants bucket at =
+    → w.wants ≡ outstanding (live e) → w.limits ≡ e.limits → w.place ≡ place → IsAt (set items place e) w
+stands-at items w place e lt turn wants limits at =
     let here : slice_get (set items place e) place ≡ Some e =
     slice_get-get_or (set items place e) place e (omega (arith, length-set items place e))
     ∙ ap Some (get_or-set_same items place e e lt) in
-    rw (at, turn, wants, bucket, here) refl
+    rw (at, turn, wants, limits, here) refl
 
 none-found : (turn : ℕ) (queue : List Waiting) → AllByRecursion (λ v. v.turn ≢ turn) queue
     → find (λ v. v.turn == turn) queue ≡ None
@@ -337,9 +337,9 @@ module _ (c : Config) (items : List Flow) (are : IsBook c items) where
 
     -- a queue with the flow at one more place
     pub put-among : (w : Waiting) → w.place ≡ place → w.turn ≡ f.turn → w.wants ≡ outstanding (live f)
-        → w.bucket ≡ f.bucket → (some place → ⊥) → more place → IsQueueAmong items more (with-one w queue)
-    put-among w at turn wants bucket out new =
-        let stands : IsAt items w = rw (at, turn, wants, bucket, here) refl in
+        → w.limits ≡ f.limits → (some place → ⊥) → more place → IsQueueAmong items more (with-one w queue)
+    put-among w at turn wants limits out new =
+        let stands : IsAt items w = rw (at, turn, wants, limits, here) refl in
         let differ = rw (sym turn) at (all-differ out queue is.each is.among) in
         record {
           ascending = ascends-put_in (λ v. v.turn) w queue (none-found w.turn queue differ) is.ascending;

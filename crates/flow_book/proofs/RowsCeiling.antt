@@ -7,6 +7,7 @@ use Rattle.flow_book.specs.Flows.{LiveFlow, bytes_of}
 use Rattle.flow_book.specs.Ceiling.{window, start_of}
 use Rattle.flow_book.specs.Choice.{MayTake, MayGrant, IsAmount, IsEligible, IsNext}
 use Rattle.sched_calls.proofs.Base.{base}
+use Rattle.flow_book.proofs.Unlimited.{KeepsWith-peakless}
 
 -- a flow of 64000 bits in a second and bursts of 1600 bytes that asked 3000 bytes, with these grants
 abbrev pub under_ceiling : List Grant → LiveFlow
@@ -17,6 +18,7 @@ under_ceiling grants = record {
   batches = one_request 3000 801;
   grants = grants;
   earlier = 0;
+  peak_earlier = 0;
 }
 
 -- a grant
@@ -40,7 +42,11 @@ kept_by_two bytes few (suc (suc i)) (suc zero) h k = absurd (omega arith)
 kept_by_two bytes few i (suc (suc j)) h k = absurd (omega arith)
 
 may_take_second : (bytes : ℕ) → bytes ≤ 544 → MayTake base (under_ceiling (grant 844 544 ∷ [])) 884 36 bytes
-may_take_second bytes few = record { ceiling = λ positive. kept_by_two bytes few; fits = omega arith }
+may_take_second bytes few = record {
+  ceiling = KeepsWith-peakless base (under_ceiling (grant 844 544 ∷ [])) 884 bytes refl
+      (λ positive. kept_by_two bytes few);
+  fits = omega arith;
+}
 
 -- its second grant is bounded by the room, not by the ceiling
 pub the_second_grant_fills_the_room : IsAmount base (under_ceiling (grant 844 544 ∷ [])) 884 36 544
@@ -63,7 +69,7 @@ abbrev pub limited : LiveFlow
 limited = under_ceiling (grant 844 544 ∷ grant 884 544 ∷ [])
 
 -- its grants with one more at 924
-abbrev three : ℕ → List Grant
+abbrev pub three : ℕ → List Grant
 three bytes = grant 844 544 ∷ grant 884 544 ∷ grant 924 bytes ∷ []
 
 -- each window of three grants with at most 528 bytes in the last keeps the ceiling
@@ -84,11 +90,11 @@ kept bytes few i (suc (suc (suc j))) h k = absurd (omega arith)
 
 -- at 924 the flow may take 528 bytes
 may_take : (bytes : ℕ) → bytes ≤ 528 → MayTake base limited 924 36 bytes
-may_take bytes few = record { ceiling = λ positive. kept bytes few; fits = omega arith }
+may_take bytes few = record { ceiling = KeepsWith-peakless base limited 924 bytes refl (λ positive. kept bytes few); fits = omega arith }
 
 -- more bytes would break the ceiling over the window of all three
 most : (more : ℕ) → MayGrant base limited 924 36 more → more ≤ 528
-most more may = let all = may.taken.ceiling (lit< tt) 0 2 (lit≤ tt) (lit< tt) in omega arith
+most more may = let all = may.taken.ceiling.sustained (lit< tt) 0 2 (lit≤ tt) (lit< tt) in omega arith
 
 -- the third grant has what is left of the burst and of the bytes for 80 minislots: 528
 pub the_third_grant_is_at_the_ceiling_to_the_byte : IsAmount base limited 924 36 528
@@ -111,17 +117,17 @@ exhausted = under_ceiling (three 528)
 
 -- a frame later it may take 8 bytes, less than the quantum, and is not eligible
 pub a_flow_at_its_ceiling_is_not_eligible : IsEligible base 964 36 exhausted → ⊥
-a_flow_at_its_ceiling_is_not_eligible e = let all = e.takes.ceiling (lit< tt) 0 3 (lit≤ tt) (lit< tt) in omega arith
+a_flow_at_its_ceiling_is_not_eligible e = let all = e.takes.ceiling.sustained (lit< tt) 0 3 (lit≤ tt) (lit< tt) in omega arith
 
 -- the flow with two grants, polled each five frames under the same ceiling
 abbrev pub polled_limited : LiveFlow
 polled_limited = record limited { spec = Polled 5000 0 64000 1600 0 }
 
 polled_may_take : (bytes : ℕ) → bytes ≤ 528 → MayTake base polled_limited 924 36 bytes
-polled_may_take bytes few = record { ceiling = λ positive. kept bytes few; fits = omega arith }
+polled_may_take bytes few = record { ceiling = KeepsWith-peakless base polled_limited 924 bytes refl (λ positive. kept bytes few); fits = omega arith }
 
 polled_most : (more : ℕ) → MayGrant base polled_limited 924 36 more → more ≤ 528
-polled_most more may = let all = may.taken.ceiling (lit< tt) 0 2 (lit≤ tt) (lit< tt) in omega arith
+polled_most more may = let all = may.taken.ceiling.sustained (lit< tt) 0 2 (lit≤ tt) (lit< tt) in omega arith
 
 -- its third grant has the same 528 bytes
 pub the_third_grant_of_a_polled_flow_is_at_the_ceiling_to_the_byte : IsAmount base polled_limited 924 36 528
@@ -134,4 +140,4 @@ the_third_grant_of_a_polled_flow_is_at_the_ceiling_to_the_byte = record {
 pub a_polled_flow_at_its_ceiling_is_not_eligible :
     IsEligible base 964 36 (record exhausted { spec = Polled 5000 0 64000 1600 0 }) → ⊥
 a_polled_flow_at_its_ceiling_is_not_eligible e =
-    let all = e.takes.ceiling (lit< tt) 0 3 (lit≤ tt) (lit< tt) in omega arith
+    let all = e.takes.ceiling.sustained (lit< tt) 0 3 (lit≤ tt) (lit< tt) in omega arith

@@ -10,7 +10,7 @@ use Rattle.sched_calls.proofs.Base.{base}
 use Rattle.flow_book.proofs.FirstGrant.{KeepsCeiling-first}
 use Rattle.flow_book.proofs.Profile.{one_request}
 use Rattle.flow_book.proofs.RowsCeiling.{grant, limited, kept}
-use Rattle.flow_book.proofs.Unlimited.{MayGrant-unlimited}
+use Rattle.flow_book.proofs.Unlimited.{KeepsWith-peakless, MayGrant-unlimited}
 
 -- a flow without a ceiling that asked 1000 bytes and was granted 544 of them
 abbrev served_in_part : LiveFlow
@@ -21,6 +21,7 @@ served_in_part = record {
   batches = one_request 1000 801;
   grants = grant 844 544 ∷ [];
   earlier = 0;
+  peak_earlier = 0;
 }
 
 -- it with 200 bytes in the place of the 456 that were outstanding
@@ -48,7 +49,7 @@ an_ask_adds_to_a_replace = (refl, refl, refl)
 -- in the next frame it is granted the 200 bytes
 pub a_replaced_flow_is_granted_these_bytes : IsAmount base replaced 884 36 200
 a_replaced_flow_is_granted_these_bytes = record {
-  allowed = MayGrant-unlimited base replaced 884 36 200 refl (lit< tt) (lit≤ tt) (lit≤ tt) (lit≤ tt);
+  allowed = MayGrant-unlimited base replaced 884 36 200 refl refl (lit< tt) (lit≤ tt) (lit≤ tt) (lit≤ tt);
   greatest = λ more may. may.asked;
 }
 
@@ -96,7 +97,11 @@ the_first_grant_of_a_period_fills_the_room = record {
     positive = lit< tt;
     asked = lit≤ tt;
     capped = lit≤ tt;
-    taken = record { ceiling = KeepsCeiling-first base 64000 600 (grant 924 544) (lit≤ tt); fits = lit≤ tt };
+    taken = record {
+      ceiling = KeepsWith-peakless base other_burst 924 544 refl
+          (KeepsCeiling-first base 64000 600 (grant 924 544) (lit≤ tt));
+      fits = lit≤ tt;
+    };
   };
   greatest = λ more may. omega (arith, may.taken.fits);
 }
@@ -116,9 +121,9 @@ the_third_grant_after_another_priority_is_at_the_ceiling = record {
     positive = lit< tt;
     asked = lit≤ tt;
     capped = lit≤ tt;
-    taken = record { ceiling = λ positive. kept 528 (lit≤ tt); fits = lit≤ tt };
+    taken = record { ceiling = KeepsWith-peakless base other_priority 924 528 refl (λ positive. kept 528 (lit≤ tt)); fits = lit≤ tt };
   };
-  greatest = λ more may. let all = may.taken.ceiling (lit< tt) 0 2 (lit≤ tt) (lit< tt) in omega arith;
+  greatest = λ more may. let all = may.taken.ceiling.sustained (lit< tt) 0 2 (lit≤ tt) (lit< tt) in omega arith;
 }
 
 -- it is served before a flow of priority 4, and was served after it

@@ -22,15 +22,16 @@ use Rattle.minislots.proofs.UnitLaws.{fits_bytes, fits_slots}
 use Rattle.flow_book.specs.Flows.{LiveFlow, outstanding}
 use Rattle.flow_book.specs.Choice.{last_start, is_before, IsEligible, IsNext, NoneEligible, HasStartedBy}
 use Rattle.flow_book.specs.Entry.{live, IsBook, KeepsSums, KnowsTurn}
-use Rattle.flow_book.specs.Bucket.{HaveStartedBy, most_of}
+use Rattle.flow_book.specs.Bucket.{HaveStartedBy}
+use Rattle.flow_book.specs.Limits.{most_in}
 use Rattle.sched_calls.specs.Sids.{AscendBy}
 use Rattle.flow_book.specs.Queue.{IsAt, IsIn, IsPassed, IsNoEarlier, IsQueueIn, HasStartedQueue, HasStartedPart}
 use Rattle.flow_book.specs.Queue.{IsFirstAble}
 use Rattle.flow_book.specs.Queue.{IsFirstInTurn, still_waits}
-use Rattle.flow_book.proofs.Amounts.{eligible-is, bucket-within}
+use Rattle.flow_book.proofs.Amounts.{eligible-is, limits-within}
 use Rattle.flow_book.proofs.Turns.{less-first}
 use Rattle.flow_book.proofs.Steps.{all-item}
-use Rattle.flow_book.proofs.Queues.{all-both, at-within, flow-at, turn-at, wants-at, bucket-at, knows-at, one-place}
+use Rattle.flow_book.proofs.Queues.{all-both, at-within, flow-at, turn-at, wants-at, limits-at, knows-at, one-place}
 use Rattle.flow_book.proofs.StillWaiting.{in-or-out, stays-in, kept-at, filter-split, none-served, all-joined}
 use Rattle.flow_book.proofs.Order.{all-implied}
 use Rattle.sched_calls.proofs.Removal.{all-filter}
@@ -77,17 +78,17 @@ pub wanted-fits : (c : Config) (start room : ℕ) (f : LiveFlow) → IsLawful c 
 wanted-fits c start room f lawful may =
     fits_bytes c (bounds_of c lawful).bursts (min (outstanding f) c.quantum) room may.takes.fits
 
--- a flow that waits for these bytes may be served where they, or the quantum, fit and keep the ceiling
+-- a flow that waits for these bytes may be served where they, or the quantum, fit and keep the ceilings
 pub may-is : (c : Config) (start room : ℕ) (f : Flow) (wants wanted : ℕ) (may : Bool) → IsLawful c → KeepsSums c f
     → HaveStartedBy start f.grants.items → outstanding (live f) ≡ wants → wanted ≡ min wants c.quantum
     → wanted ≤ bytes_in c room
-    → IsTrue may ↔ (takes_requests f.spec ≡ true) × (0 < wanted) × (most_of f.bucket start wanted ≡ wanted)
+    → IsTrue may ↔ (takes_requests f.spec ≡ true) × (0 < wanted) × (most_in f.limits start wanted ≡ wanted)
     → IsTrue may ↔ IsEligible c start room (live f)
 may-is c start room f wants wanted may lawful keeps started asks is fits decides =
     let bounds = bounds_of c lawful in
     let limits : wanted ≡ min (outstanding (live f)) c.quantum = omega arith in
-    let most = most_of f.bucket start wanted in
-    let within = bucket-within c (live f) f.bucket start room wanted most keeps.bucket started refl in
+    let most = most_in f.limits start wanted in
+    let within = limits-within c (live f) f.limits start room wanted most keeps.limits started refl in
     let yes' : IsTrue may → IsEligible c start room (live f) = λ t.
     let p = decides.0 t in
     let whole : IsTrue (nat_eq most wanted) = let e : most ≡ wanted = p.2 in grind (arith, nat_tests) in
@@ -110,7 +111,7 @@ pub record StandsIn (c : Config) (items : List Flow) (start : ℕ) (w : Waiting)
   pub started : HaveStartedBy start flow.grants.items
   pub turn : flow.turn ≡ w.turn
   pub wants : outstanding (live flow) ≡ w.wants
-  pub bucket : flow.bucket ≡ w.bucket
+  pub limits : flow.limits ≡ w.limits
 
 -- one that stands at its place has a flow
 pub stands-at-place : (c : Config) (items : List Flow) (start : ℕ) (w : Waiting) → IsBook c items
@@ -127,7 +128,7 @@ stands-at-place c items start w book began at =
       started = all-item live items w.place f within read (HasStartedBy start) began;
       turn = turn-at items w f at found.1;
       wants = wants-at items w f at found.1;
-      bucket = bucket-at items w f at found.1;
+      limits = limits-at items w f at found.1;
     }
 
 -- an entry that still waits has a flow
@@ -143,19 +144,19 @@ stands-in c items queue start i w is lt here waits =
 equal : (m n : ℕ) → (m == n) ≡ true → m ≡ n
 equal m n same = grind (arith, nat_tests)
 
--- it may be served where the bytes that it waits for, or the quantum, fit and keep the ceiling
+-- it may be served where the bytes that it waits for, or the quantum, fit and keep the ceilings
 pub entry-may : (c : Config) (start room : ℕ) (items : List Flow) (w : Waiting) (wanted : ℕ) (may : Bool) → IsLawful c
     → (is : StandsIn c items start w) → wanted ≡ min w.wants c.quantum → 0 < wanted → wanted ≤ bytes_in c room
-    → may ≡ (most_of w.bucket start wanted == wanted)
+    → may ≡ (most_in w.limits start wanted == wanted)
     → IsTrue may ↔ IsEligible c start room (live is.flow)
 entry-may c start room items w wanted may lawful is limits some fits tested =
     let f = is.flow in
     let takes : takes_requests f.spec ≡ true = is.keeps.asks (omega (arith, is.wants, limits, some)) in
-    let most : most_of f.bucket start wanted ≡ most_of w.bucket start wanted =
-    ap (λ b. most_of b start wanted) is.bucket in
+    let most : most_in f.limits start wanted ≡ most_in w.limits start wanted =
+    ap (λ l. most_in l start wanted) is.limits in
     may-is c start room f w.wants wanted may lawful is.keeps is.started is.wants limits fits (
-      (λ t. (takes, some, most ∙ equal (most_of w.bucket start wanted) wanted (sym tested ∙ t))),
-      (λ p. tested ∙ eq-eqb (most_of w.bucket start wanted) wanted (sym most ∙ p.2)),
+      (λ t. (takes, some, most ∙ equal (most_in w.limits start wanted) wanted (sym tested ∙ t))),
+      (λ p. tested ∙ eq-eqb (most_in w.limits start wanted) wanted (sym most ∙ p.2)),
     )
 
 -- one of a list that still waits stands at its place where those that do stand there

@@ -59,14 +59,13 @@ copy-sums c f g is keeps =
     let spec : g.spec ≡ f.spec = ap (λ (h : LiveFlow). h.spec) is.same in
     let sid : g.sid ≡ f.sid = ap (λ (h : LiveFlow). h.sid) is.same in
     let asked : g.asked ≡ f.asked = ap (λ (h : LiveFlow). h.asked) is.same in
-    let earlier : g.period.earlier ≡ f.period.earlier = ap (λ (h : LiveFlow). h.earlier) is.same in
     record {
       asks = rw (asked, spec) keeps.asks;
       granted = is.granted ∙ keeps.granted ∙ ap bytes_of (sym grants);
       turn = rw (spec, grants, sid, is.turn) keeps.turn;
-      period = rw (grants, earlier) keeps.period;
-      bucket = rw (spec, grants, earlier, is.bucket) keeps.bucket;
-      settled = rw (grants, earlier, is.bucket) keeps.settled;
+      periods = rw is.same keeps.periods;
+      limits = rw (is.same, is.limits) keeps.limits;
+      settled = rw (is.same, is.limits) keeps.settled;
     }
 
 -- flows keep their sums where a copy of one takes its place
@@ -95,9 +94,9 @@ asked-book c sid bytes heard items i f are is takes =
       asks = λ some. takes;
       granted = keeps.granted;
       turn = keeps.turn;
-      period = keeps.period;
-      bucket = keeps.bucket;
-      settled = keeps.settled;
+      periods = record { sustained = keeps.periods.sustained; peak = keeps.periods.peak };
+      limits = record { sustained = keeps.limits.sustained; peak = keeps.limits.peak };
+      settled = record { sustained = keeps.settled.sustained; peak = keeps.settled.peak };
     })
 
 -- and so where that asked for other bytes in the place of those outstanding
@@ -111,9 +110,9 @@ replaced-book c sid bytes heard items i f are is takes =
       asks = λ some. takes;
       granted = keeps.granted;
       turn = keeps.turn;
-      period = keeps.period;
-      bucket = keeps.bucket;
-      settled = keeps.settled;
+      periods = record { sustained = keeps.periods.sustained; peak = keeps.periods.peak };
+      limits = record { sustained = keeps.limits.sustained; peak = keeps.limits.peak };
+      settled = record { sustained = keeps.settled.sustained; peak = keeps.settled.peak };
     })
 
 -- and so where that has other parameters and keeps its sums
@@ -124,7 +123,7 @@ changed-book c sid spec items i e f are is changed keeps =
     let within : granted (live e) ≤ e.asked =
     subst (λ (g : LiveFlow). granted g ≤ g.asked) (sym changed) sound.within in
     placed-book c sid items i e f are is (ap (λ (g : LiveFlow). g.sid) changed)
-    (record { within = within; kept = keeps.bucket.kept }) keeps
+    (record { within = within; kept = keeps.limits.sustained.kept; peak_kept = keeps.limits.peak.kept }) keeps
 
 -- and so where that is with a lawful grant more
 pub granted-book : (c : Config) (sid start bytes room : ℕ) (items : List Flow) (i : ℕ) (e f : Flow) → IsBook c items
@@ -135,4 +134,4 @@ granted-book c sid start bytes room items i e f are is more may sums =
     let sound = placed-is_sound c sid items i f are.sound is in
     let keeps = placed-sums c sid items i f are is in
     placed-book c sid items i e f are is (ap (λ (g : LiveFlow). g.sid) more)
-    (rw more (granted-sound c start bytes room (live f) sound keeps.period may)) (sums keeps may.taken.ceiling)
+    (rw more (granted-sound c start bytes room (live f) sound keeps.periods may)) (sums keeps may.taken.ceiling)

@@ -20,7 +20,7 @@ use Rattle.flow_book.specs.Queue.{IsAt, IsIn}
 use Rattle.flow_book.specs.Overlay.{IsSameFlow}
 use Rattle.flow_book.specs.Taking.{CanBeTaken, IsTaken}
 use Rattle.flow_book.proofs.Once.{fresh-once}
-use Rattle.flow_book.proofs.Queues.{at-within, flow-at, turn-at, wants-at, bucket-at, same-turn, same-but}
+use Rattle.flow_book.proofs.Queues.{at-within, flow-at, turn-at, wants-at, limits-at, same-turn, same-but}
 use Rattle.flow_book.proofs.StillWaiting.{in-or-out, all-at}
 use Rattle.flow_book.proofs.Sums.{copy-sums}
 
@@ -166,7 +166,7 @@ module _ (c : Config) (old items : List Flow) (queue : List Waiting) (can : CanB
           → IsCopy is-here.0 (record f {
             turn = w.turn;
             granted = f.asked - w.wants;
-            bucket = w.bucket;
+            limits = w.limits;
             grants = grants;
           })
       copied grants are =
@@ -188,7 +188,7 @@ module _ (c : Config) (old items : List Flow) (queue : List Waiting) (can : CanB
               keeps.granted,
             );
             turn = sym (turn-at items w g here.is here.at);
-            bucket = sym (bucket-at items w g here.is here.at);
+            limits = sym (limits-at items w g here.is here.at);
           }
 
       -- so one place more is done where it is put there

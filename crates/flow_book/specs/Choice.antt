@@ -4,22 +4,25 @@ use Rattle.std.specs.Prelude.{◌++◌, Contains, Option, None, Some, IsSomeAnd}
 use Rattle.std.specs.List.{AllByRecursion}
 use Rattle.minislots.specs.declared.config.Config.{Config}
 use Rattle.minislots.specs.Units.{slots_for}
-use Rattle.sched_calls.specs.FlowSpec.{takes_requests, rank_of, rate_of, burst_of}
+use Rattle.sched_calls.specs.FlowSpec.{takes_requests, rank_of, rate_of, burst_of, peak_of}
+use Rattle.sched_calls.specs.declared.spec.TheConstants.{PEAK_BURST}
 use Rattle.flow_book.specs.declared.flow.Grant.{Grant}
-use Rattle.flow_book.specs.Flows.{LiveFlow, outstanding, in_period, flow_of}
+use Rattle.flow_book.specs.Flows.{LiveFlow, outstanding, in_period, in_peak_period, flow_of}
 use Rattle.flow_book.specs.Ceiling.{KeepsCeiling}
 
--- the flow keeps its ceiling with one grant more
-abbrev pub KeepsWith : Config → LiveFlow → ℕ → ℕ → Type 0
-KeepsWith c f start bytes =
-    KeepsCeiling c (rate_of f.spec) (burst_of f.spec) (in_period f ++ record { start = start; bytes = bytes } ∷ [])
+-- The flow keeps its ceiling, and that of its peak rate, with one grant more
+pub record KeepsWith (c : Config) (f : LiveFlow) (start bytes : ℕ) : Type 0 where
+  pub sustained : KeepsCeiling c (rate_of f.spec) (burst_of f.spec)
+      (in_period f ++ record { start = start; bytes = bytes } ∷ [])
+  pub peak : KeepsCeiling c (peak_of f.spec) PEAK_BURST
+      (in_peak_period f ++ record { start = start; bytes = bytes } ∷ [])
 
--- a grant of so many bytes at this minislot keeps the flow's ceiling, and fits the room
+-- a grant of so many bytes at this minislot keeps the flow's ceilings, and fits the room
 pub record MayTake (c : Config) (f : LiveFlow) (start room bytes : ℕ) : Type 0 where
   pub ceiling : KeepsWith c f start bytes
   pub fits : slots_for c bytes ≤ room
 
--- so many bytes may be granted: some of those outstanding, at most the cap, within ceiling and room
+-- so many bytes may be granted: some of those outstanding, at most the cap, within ceilings and room
 pub record MayGrant (c : Config) (f : LiveFlow) (start room bytes : ℕ) : Type 0 where
   pub positive : 0 < bytes
   pub asked : bytes ≤ outstanding f

@@ -5,12 +5,13 @@ use Rattle.minislots.specs.declared.config.Config.{Config}
 use Rattle.minislots.specs.Units.{bytes_in}
 use Rattle.flow_book.specs.declared.flow.Flow.{Flow}
 use Rattle.flow_book.specs.declared.flow.Room as the_room
-use Rattle.sched_calls.specs.FlowSpec.{rank_of, rate_of, burst_of, takes_requests}
+use Rattle.sched_calls.specs.FlowSpec.{rank_of, rate_of, burst_of, peak_of, takes_requests}
+use Rattle.sched_calls.specs.declared.spec.TheConstants.{PEAK_BURST}
 use Rattle.flow_book.specs.Batches.{with_request}
-use Rattle.flow_book.specs.Flows.{LiveFlow, bytes_of, granted, in_period}
+use Rattle.flow_book.specs.Flows.{LiveFlow, bytes_of, granted, in_period, in_peak_period}
 use Rattle.flow_book.specs.Ceiling.{KeepsCeiling}
 use Rattle.flow_book.specs.Choice.{last_start}
-use Rattle.flow_book.specs.Bucket.{StandsFor, IsSettled}
+use Rattle.flow_book.specs.Limits.{HasPeriods, AreLimitsOf, AreSettled}
 use Rattle.flow_book.specs.Book.{Room, Ascend}
 
 -- the live flow that the fields stand for
@@ -22,6 +23,7 @@ live f = record {
   batches = f.batches;
   grants = f.grants.items;
   earlier = f.period.earlier;
+  peak_earlier = f.peak_period.earlier;
 }
 
 -- it with so many bytes more that it asked, in a request that was heard at this minislot
@@ -55,28 +57,29 @@ IsTurn rank (Some start) sid turn = (sid < 2 ^ 16) × (start < 2 ^ 64)
 abbrev pub KnowsTurn : Flow → Type 0
 KnowsTurn f = (rank_of f.spec ≤ 255) × IsTurn (rank_of f.spec) (last_start f.grants.items) f.sid f.turn
 
--- what a flow keeps beside its grants is theirs: their bytes, its turn after the last one, and the bucket of its rate
--- and burst that stands for those of the present period of its ceiling and is settled by them; and only a flow that
--- takes requests has asked for bytes
+-- what a flow keeps beside its grants is theirs: their bytes, its turn after the last one, and the bucket of each of
+-- its ceilings that stands for those of the present period of that and is settled by them; and only a flow that takes
+-- requests has asked for bytes
 pub record KeepsSums (c : Config) (f : Flow) : Type 0 where
   pub asks : 0 < f.asked → takes_requests f.spec ≡ true
   pub granted : f.granted ≡ bytes_of f.grants.items
   pub turn : KnowsTurn f
-  pub period : f.period.earlier ≤ length f.grants.items
-  pub bucket : StandsFor c (rate_of f.spec) (burst_of f.spec) f.bucket (in_period (live f))
-  pub settled : IsSettled f.bucket (in_period (live f))
+  pub periods : HasPeriods (live f)
+  pub limits : AreLimitsOf c (live f) f.limits
+  pub settled : AreSettled (live f) f.limits
 
 -- g is a copy of f, with what is kept beside its grants
 pub record IsCopy (f g : Flow) : Type 0 where
   pub same : live g ≡ live f
   pub granted : g.granted ≡ f.granted
   pub turn : g.turn ≡ f.turn
-  pub bucket : g.bucket ≡ f.bucket
+  pub limits : g.limits ≡ f.limits
 
--- a flow was granted no more than it asked, within its rate ceiling since this began
+-- a flow was granted no more than it asked, within each of its ceilings since that began
 pub record IsSoundFlow (c : Config) (f : LiveFlow) : Type 0 where
   pub within : granted f ≤ f.asked
   pub kept : KeepsCeiling c (rate_of f.spec) (burst_of f.spec) (in_period f)
+  pub peak_kept : KeepsCeiling c (peak_of f.spec) PEAK_BURST (in_peak_period f)
 
 -- what is true of the flows of every book
 pub record IsSoundBook (c : Config) (flows : List LiveFlow) : Type 0 where

@@ -14,17 +14,18 @@ use Rattle.flow_book.specs.Flows.{LiveFlow}
 abbrev pub flows_code : Coded (List LiveFlow)
 flows_code =
     coded_list
-    (code_by (ℕ × (FlowSpec × (ℕ × (Batches × (List Grant × ℕ)))))
+    (code_by (ℕ × (FlowSpec × (ℕ × (Batches × (List Grant × (ℕ × ℕ))))))
     (coded× coded_ℕ
-    (coded× spec.the_row.coded (coded× coded_ℕ (coded× batches.the_row.coded (coded× grants_code coded_ℕ)))))
-    (λ f. (f.sid, (f.spec, (f.asked, (f.batches, (f.grants, f.earlier))))))
+    (coded× spec.the_row.coded (coded× coded_ℕ (coded× batches.the_row.coded (coded× grants_code (coded× coded_ℕ coded_ℕ))))))
+    (λ f. (f.sid, (f.spec, (f.asked, (f.batches, (f.grants, (f.earlier, f.peak_earlier)))))))
     (λ p. record {
       sid = p.0;
       spec = p.1.0;
       asked = p.1.1.0;
       batches = p.1.1.1.0;
       grants = p.1.1.1.1.0;
-      earlier = p.1.1.1.1.1;
+      earlier = p.1.1.1.1.1.0;
+      peak_earlier = p.1.1.1.1.1.1;
     })
     (λ _. refl))
 

@@ -5,7 +5,7 @@ use Rattle.flow_book.specs.declared.batches.Batches.{Batches}
 use Rattle.flow_book.specs.declared.flow.Grant.{Grant}
 
 -- a live flow: its SID and parameters, the bytes that it asked, the batches of its requests, its data grants in order,
--- and how many of them came before the present period of its ceiling
+-- and how many of them came before the present period of its ceiling, and before that of its peak rate
 pub record LiveFlow : Type 0 where
   pub sid : ℕ
   pub spec : FlowSpec
@@ -13,6 +13,7 @@ pub record LiveFlow : Type 0 where
   pub batches : Batches
   pub grants : List Grant
   pub earlier : ℕ
+  pub peak_earlier : ℕ
 
 -- the bytes of some grants
 abbrev pub bytes_of : List Grant → ℕ
@@ -29,6 +30,10 @@ outstanding f = f.asked - granted f
 -- its data grants in the present period of its ceiling
 abbrev pub in_period : LiveFlow → List Grant
 in_period f = drop f.earlier f.grants
+
+-- its data grants in the present period of its peak rate
+abbrev pub in_peak_period : LiveFlow → List Grant
+in_peak_period f = drop f.peak_earlier f.grants
 
 -- a flow with one grant more
 abbrev pub with_grant : Grant → LiveFlow → LiveFlow

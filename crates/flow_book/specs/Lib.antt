@@ -8,6 +8,7 @@ pub mod Lending
 pub mod FlowList
 pub mod Ceiling
 pub mod Bucket
+pub mod Limits
 pub mod Choice
 pub mod Book
 pub mod Entry

@@ -8,7 +8,7 @@ use Rattle.flow_book.specs.declared.queue.Waiting.{Waiting}
 use Rattle.flow_book.specs.declared.parts.Standing.{Standing}
 use Rattle.flow_book.specs.declared.parts.Standing.TheVariants.{Queued, Served}
 use Rattle.flow_book.specs.Choice.{HasStartedBy, IsNext}
-use Rattle.flow_book.specs.Bucket.{most_of, HasOneMore, StaysSettled}
+use Rattle.flow_book.specs.Limits.{most_in, HaveOneMore, StaySettled}
 use Rattle.flow_book.specs.Entry.{live, IsBook, IsTurn}
 use Rattle.sched_calls.specs.Sids.{put_in}
 use Rattle.flow_book.specs.Queue.{IsAt, IsIn, IsQueueAmong, IsQueueIn, AreOnce, still_waits}
@@ -72,11 +72,11 @@ IsPut false items w queue served queue_after served_after = IsPutBack items w qu
 
 -- One that waited was granted so many bytes at this minislot, the most that it may have of so many, and this is its SID
 pub record IsGranted (w new : Waiting) (start most sid bytes : ℕ) : Type 0 where
-  pub amount : bytes ≡ most_of w.bucket start (min w.wants most)
+  pub amount : bytes ≡ most_in w.limits start (min w.wants most)
   pub wants : new.wants + bytes ≡ w.wants
   pub place : new.place ≡ w.place
-  pub bucket : HasOneMore w.bucket new.bucket start bytes
-  pub settled : StaysSettled w.bucket new.bucket start bytes
+  pub limits : HaveOneMore w.limits new.limits start bytes
+  pub settled : StaySettled w.limits new.limits start bytes
   pub turn : (rank : ℕ) (last : Option ℕ) (sid : ℕ) → IsTurn rank last sid w.turn → IsTurn rank (Some start) sid new.turn
   pub later : (rank : ℕ) (last : Option ℕ) (sid : ℕ) → IsTurn rank last sid w.turn → IfSome last (λ m. m ≤ start)
       → w.turn ≤ new.turn

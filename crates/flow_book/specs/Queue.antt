@@ -6,18 +6,18 @@ use Rattle.minislots.specs.declared.config.Config.{Config}
 use Rattle.flow_book.specs.declared.flow.Flow.{Flow}
 use Rattle.flow_book.specs.declared.queue.Waiting.{Waiting}
 use Rattle.flow_book.specs.Flows.{outstanding}
-use Rattle.flow_book.specs.Bucket.{BucketView}
+use Rattle.flow_book.specs.declared.limits.Limits.{Limits}
 use Rattle.flow_book.specs.Choice.{HasStartedBy, IsEligible, IsNext}
 use Rattle.flow_book.specs.Entry.{live, IsBook}
 use Rattle.sched_calls.specs.Sids.{AscendBy, put_in}
 
--- a flow's turn, the bytes that it waits for, and its bucket
-abbrev pub entry_of : Flow → ℕ × ℕ × BucketView
-entry_of f = (f.turn, outstanding (live f), f.bucket)
+-- a flow's turn, the bytes that it waits for, and what its ceilings leave
+abbrev pub entry_of : Flow → ℕ × ℕ × Limits
+entry_of f = (f.turn, outstanding (live f), f.limits)
 
--- there is a flow at its place, and these are its turn, the bytes that it waits for, and its bucket
+-- there is a flow at its place, and these are its turn, the bytes that it waits for, and what its ceilings leave
 abbrev pub IsAt : List Flow → Waiting → Type 0
-IsAt items w = option_map entry_of (slice_get items w.place) ≡ Some (w.turn, w.wants, w.bucket)
+IsAt items w = option_map entry_of (slice_get items w.place) ≡ Some (w.turn, w.wants, w.limits)
 
 -- the place is one of those in the queue
 abbrev pub IsIn : ℕ → List Waiting → Type 0

@@ -116,6 +116,21 @@ impl Bucket {
         true
     }
 
+    // Takes a grant of so many bytes that starts at this minislot and keeps the ceiling.
+    pub(crate) fn spend(&mut self, slot: u64, bytes: u32)
+        requires since { self.old.since ≤ slot }
+        requires has { most_of self.old slot bytes ≡ bytes }
+        ensures taken { HasOneMore self.old self.new slot bytes }
+        ensures settled { StaysSettled self.old self.new slot bytes }
+        ensures since { self.new.since ≤ slot }
+    {
+        if self.per_slot == 0 {
+            return;
+        }
+        self.level = self.level(slot) - PARTS * u64::from(bytes);
+        self.since = slot;
+    }
+
     // Takes a grant of the most bytes, up to the limit, that keeps the ceiling and starts at this minislot, and answers
     // how many they are.
     pub(crate) fn take_most(&mut self, slot: u64, limit: u32) -> u32

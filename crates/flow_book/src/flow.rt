@@ -2,27 +2,28 @@
 
 ghost use Rattle.std.specs.Prelude.{◌≡◌, ℕ, ◌+◌, ◌-◌, ◌<◌, ◌≤◌, ◌^◌, map, length, slice_index_or, IsTrue};
 ghost use Rattle.std.specs.Prelude.{◌↔◌, Option, None, Some, true, nat_lt, ◌&&◌, MatchOption, IfSome, option_map};
-ghost use Rattle.std.specs.Prelude.{option_copied, min, ◌++◌, ◌∷◌, []};
+ghost use Rattle.std.specs.Prelude.{option_copied, min, drop, ◌++◌, ◌∷◌, [], if◌then◌else◌};
 ghost use Rattle.std.specs.List.{AllByRecursion};
 ghost use Rattle.minislots.specs.declared.config.Config.{Config};
 ghost use Rattle.minislots.specs.Config.{IsLawful};
-ghost use Rattle.sched_calls.specs.FlowSpec.{rate_of, burst_of};
-ghost use Rattle.flow_book.specs.Flows.{granted, outstanding, in_period, with_grant};
+ghost use Rattle.flow_book.specs.Flows.{granted, outstanding, with_grant};
 ghost use Rattle.flow_book.specs.Choice.{is_before, IsEligible, IsMost, KeepsWith};
 ghost use Rattle.flow_book.specs.Choice.{IsNextOf, HasStartedBy};
-ghost use Rattle.sched_calls.specs.FlowSpec.{takes_requests};
+ghost use Rattle.sched_calls.specs.FlowSpec.{takes_requests, rate_of, burst_of, peak_of};
+ghost use Rattle.sched_calls.specs.declared.spec.TheConstants.{PEAK_BURST as THE_PEAK_BURST};
 ghost use Rattle.flow_book.specs.Bucket.{HaveStartedBy, StandsFor, IsSettled};
+ghost use Rattle.flow_book.specs.Limits.{HasBegunBy, HasPeriods, AreLimitsOf, AreSettled};
 ghost use Rattle.flow_book.specs.Entry.{live, room_in, IsSoundFlow, IsSoundBook, IsTurn, KnowsTurn, KeepsSums};
 ghost use Rattle.flow_book.specs.Entry.{asked_more, asked_instead};
 ghost use Rattle.flow_book.specs.Queue.{entry_of};
-ghost use Rattle.flow_book.specs.Book.{KeepsRoom, new_flow, has_ceiling_of, with_spec};
+ghost use Rattle.flow_book.specs.Book.{KeepsRoom, new_flow, has_ceiling_of, has_peak_of, with_spec};
 ghost use Rattle.flow_book.specs.Batches.{since_of};
 ghost use Rattle.flow_book.specs.declared.flow.Flow.{Flow};
 
 use crate::batches::Batches;
-use crate::bucket::Bucket;
 use crate::flows::Flows;
 use crate::granted::GrantList;
+use crate::limits::{Limits, peak_of, sustained_of};
 use crate::period::Period;
 use crate::queue::Waiting;
 use minislots::Checked;
@@ -74,14 +75,15 @@ pub(crate) struct Flow {
     batches: Batches,
     // The bytes of all data grants.
     granted: u64,
-    // What the data grants leave under the rate ceiling.
-    pub(crate) bucket: Bucket,
+    // What the data grants leave under both ceilings.
+    pub(crate) limits: Limits,
     pub(crate) spec: FlowSpec,
     pub(crate) sid: u16,
     // The data grants, in order, for contracts alone.
     pub(crate) grants: GrantList,
-    // The present period of its ceiling, for contracts alone.
+    // The present periods of its ceiling and of its peak rate, for contracts alone.
     pub(crate) period: Period,
+    pub(crate) peak_period: Period,
 }
 
 impl Flow {
@@ -97,9 +99,10 @@ impl Flow {
             batches: Batches::none(),
             granted: 0,
             turn: turn_of(spec.rank(), sid),
-            bucket: Bucket::open(config, spec.rate(), spec.burst()),
+            limits: Limits::open(config, &spec),
             grants: GrantList::none(),
             period: Period::first(),
+            peak_period: Period::first(),
         }
     }
 
@@ -142,7 +145,8 @@ impl Flow {
         self.ask(bytes, heard);
     }
 
-    // Gives the flow these parameters. Another ceiling begins a period, with a full bucket.
+    // Gives the flow these parameters. Another ceiling begins a period, with a full bucket, and so does another peak
+    // rate.
     pub(crate) fn change(&mut self, config: &Checked, spec: FlowSpec)
         ensures live { live self.new ≡ with_spec spec (live self.old) }
         ensures room { room_in self.new ≡ room_in self.old }
@@ -150,11 +154,51 @@ impl Flow {
             → KeepsSums config.now self.old → KeepsSums config.now self.new }
     {
         self.turn = turn_in(self.turn, spec.rank());
-        if !has_ceiling_of(&self.spec, &spec) {
-            self.bucket = Bucket::open(config, spec.rate(), spec.burst());
+        self.change_sustained(config, &spec);
+        self.change_peak(config, &spec);
+        self.spec = spec;
+    }
+
+    // Begins a period of the flow's ceiling where that is another with these parameters.
+    fn change_sustained(&mut self, config: &Checked, spec: &FlowSpec)
+        ensures same { self.new ≡ record self.old {
+          limits = record self.old.limits { sustained = self.new.limits.sustained };
+          period = self.new.period;
+        } }
+        ensures period { self.new.period.earlier ≡ (if has_ceiling_of self.old.spec spec.now
+            then self.old.period.earlier else length self.old.grants.items) }
+        ensures bucket { StandsFor config.now (rate_of self.old.spec) (burst_of self.old.spec)
+            self.old.limits.sustained (drop self.old.period.earlier self.old.grants.items)
+            → StandsFor config.now (rate_of spec.now) (burst_of spec.now)
+            self.new.limits.sustained (drop self.new.period.earlier self.old.grants.items) }
+        ensures settled { IsSettled self.old.limits.sustained (drop self.old.period.earlier self.old.grants.items)
+            → IsSettled self.new.limits.sustained (drop self.new.period.earlier self.old.grants.items) }
+    {
+        if !has_ceiling_of(&self.spec, spec) {
+            self.limits.sustained = sustained_of(config, spec);
             self.period = Period::behind(&self.grants);
         }
-        self.spec = spec;
+    }
+
+    // Begins a period of the flow's peak rate where that is another with these parameters.
+    fn change_peak(&mut self, config: &Checked, spec: &FlowSpec)
+        ensures same { self.new ≡ record self.old {
+          limits = record self.old.limits { peak = self.new.limits.peak };
+          peak_period = self.new.peak_period;
+        } }
+        ensures period { self.new.peak_period.earlier ≡ (if has_peak_of self.old.spec spec.now
+            then self.old.peak_period.earlier else length self.old.grants.items) }
+        ensures bucket { StandsFor config.now (peak_of self.old.spec) THE_PEAK_BURST
+            self.old.limits.peak (drop self.old.peak_period.earlier self.old.grants.items)
+            → StandsFor config.now (peak_of spec.now) THE_PEAK_BURST
+            self.new.limits.peak (drop self.new.peak_period.earlier self.old.grants.items) }
+        ensures settled { IsSettled self.old.limits.peak (drop self.old.peak_period.earlier self.old.grants.items)
+            → IsSettled self.new.limits.peak (drop self.new.peak_period.earlier self.old.grants.items) }
+    {
+        if self.spec.peak() != spec.peak() {
+            self.limits.peak = peak_of(config, spec);
+            self.peak_period = Period::behind(&self.grants);
+        }
     }
 
     // Whether the flow waits for bytes.
@@ -191,7 +235,7 @@ impl Flow {
         ensures lawful { IsLawful config.now }
     {
         let limit = self.limit(config, config.bytes_in(room));
-        self.bucket.most(start, limit)
+        self.limits.most(start, limit)
     }
 
     // The most bytes that a data grant of at most so many may have, were there no ceiling.
@@ -220,7 +264,7 @@ impl Flow {
         if wanted == 0 || u64::from(wanted) > config.bytes_in(room) {
             return false;
         }
-        self.bucket.has(start, wanted)
+        self.limits.has(start, wanted)
     }
 
     // Gives the flow the data grants that a MAP adds, and what the queue has of it with them.
@@ -229,13 +273,13 @@ impl Flow {
         ensures { self.new ≡ record self.old {
           turn = waiting.now.turn;
           granted = self.old.asked - waiting.now.wants;
-          bucket = waiting.now.bucket;
+          limits = waiting.now.limits;
           grants = grants;
         } }
     {
         self.turn = waiting.turn;
         self.granted = self.asked - waiting.wants;
-        self.bucket = waiting.bucket.again();
+        self.limits = waiting.limits.again();
         self.grants = grants;
     }
 
@@ -244,14 +288,14 @@ impl Flow {
     pub(crate) fn grant(&mut self, start: u64, bytes: u32)
         requires room { 0 < (room_in self.old).grants }
         requires asked { self.old.granted + bytes ≤ self.old.asked }
-        requires since { self.old.bucket.since ≤ start }
+        requires begun { HasBegunBy start self.old.limits }
         ensures live { live self.new
             ≡ with_grant (record { start = start; bytes = bytes }) (live self.old) }
         ensures room { (room_in self.new).grants + 1 ≡ (room_in self.old).grants }
         ensures sums { (c : Config) → KeepsSums c self.old → HaveStartedBy start
             self.old.grants.items → KeepsWith c (live self.old) start bytes → KeepsSums c self.new }
     {
-        let _ = self.bucket.take(start, bytes);
+        self.limits.take(start, bytes);
         self.note(start, bytes);
     }
 
@@ -265,11 +309,9 @@ impl Flow {
         ensures sums { (c : Config)
             → (0 < self.old.asked → takes_requests self.old.spec ≡ true)
             → self.old.granted ≡ granted (live self.old) → KnowsTurn self.old
-            → self.old.period.earlier ≤ length self.old.grants.items
-            → StandsFor c (rate_of self.old.spec) (burst_of self.old.spec) self.old.bucket
-            (in_period (live self.old) ++ record { start = start; bytes = bytes } ∷ [])
-            → IsSettled self.old.bucket
-            (in_period (live self.old) ++ record { start = start; bytes = bytes } ∷ [])
+            → HasPeriods (live self.old)
+            → AreLimitsOf c (with_grant (record { start = start; bytes = bytes }) (live self.old)) self.old.limits
+            → AreSettled (with_grant (record { start = start; bytes = bytes }) (live self.old)) self.old.limits
             → KeepsSums c self.new }
     {
         self.granted += u64::from(bytes);

@@ -9,6 +9,7 @@ mod flow;
 mod flow_list;
 mod flows;
 mod granted;
+mod limits;
 mod overlay;
 mod parts;
 mod period;

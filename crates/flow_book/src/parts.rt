@@ -9,6 +9,7 @@ ghost use Rattle.flow_book.specs.declared.flow.Flow.{Flow};
 ghost use Rattle.flow_book.specs.declared.queue.Waiting.{Waiting};
 ghost use Rattle.flow_book.specs.Choice.{NoneEligible};
 ghost use Rattle.flow_book.specs.Entry.{live, IsRoom};
+ghost use Rattle.flow_book.specs.Limits.{HasBegunBy};
 ghost use Rattle.sched_calls.specs.Sids.{AscendBy, put_in};
 ghost use Rattle.flow_book.specs.Queue.{IsOrderIn, IsQueueIn, IsShortQueue, HasRoom, NoneWaitsBefore, still_waits};
 ghost use Rattle.flow_book.specs.declared.parts.Standing.TheVariants.{Queued};
@@ -155,7 +156,7 @@ fn first_waiting(queue: &[Waiting], first: usize) -> usize
 
 // Grants one that waits, at this minislot, the most bytes that it may have of so many, and answers to whom they went.
 fn serve_one(waiting: &mut Waiting, start: u64, most: u64) -> Served
-    requires since { waiting.old.bucket.since ≤ start }
+    requires begun { HasBegunBy start waiting.old.limits }
     requires most { most < 2 ^ 32 }
     ensures { IsGranted waiting.old waiting.new start most result.sid result.bytes }
 {

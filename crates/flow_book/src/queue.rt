@@ -9,27 +9,27 @@ ghost use Rattle.minislots.specs.Config.{IsLawful};
 ghost use Rattle.flow_book.specs.declared.flow.Flow.{Flow};
 ghost use Rattle.flow_book.specs.Flows.{granted, outstanding};
 ghost use Rattle.flow_book.specs.Choice.{NoneEligible};
-ghost use Rattle.flow_book.specs.Bucket.{most_of, HasOneMore, StaysSettled};
+ghost use Rattle.flow_book.specs.Limits.{HasBegunBy, HaveOneMore, StaySettled, most_in};
 ghost use Rattle.flow_book.specs.Entry.{live, IsBook, IsRoom, IsTurn};
 ghost use Rattle.sched_calls.specs.Sids.{AscendBy, put_in};
 ghost use Rattle.flow_book.specs.Queue.{IsQueue, IsQueueAmong, IsMoved, AreSameBut, moved_up, moved_down};
 ghost use Rattle.flow_book.specs.Queue.{HasStartedQueue, HasStartedPart, IsFirstInTurn, IsFirstAble, IsPassed};
 ghost use Rattle.flow_book.specs.Queue.{NoneWaitsBefore, StandsBehind, is_passed, still_waits};
 
-use crate::bucket::Bucket;
 use crate::flow::{Flow, Room, SIDS, turn_after};
 use crate::flows::Flows;
+use crate::limits::Limits;
 use minislots::Checked;
 use std::alloc::{AllocError, Global};
 
-// A flow that waits for bytes: its turn, the bytes that it waits for, its place among the flows, and what its ceiling
-// leaves to it.
+// A flow that waits for bytes: its turn, the bytes that it waits for, its place among the flows, and what its ceilings
+// leave to it.
 #[derive(Clone, Copy)]
 pub(crate) struct Waiting {
     pub(crate) turn: u128,
     pub(crate) wants: u64,
     pub(crate) place: usize,
-    pub(crate) bucket: Bucket,
+    pub(crate) limits: Limits,
 }
 
 impl Waiting {
@@ -43,20 +43,20 @@ impl Waiting {
     // Grants the flow, from this minislot on, the most bytes that it may have of so many at most, and answers how many
     // they are.
     pub(crate) fn serve(&mut self, start: u64, most: u64) -> u32
-        requires since { self.old.bucket.since ≤ start }
+        requires begun { HasBegunBy start self.old.limits }
         requires most { most < 2 ^ 32 }
-        ensures bytes { result ≡ most_of self.old.bucket start (min self.old.wants most) }
+        ensures bytes { result ≡ most_in self.old.limits start (min self.old.wants most) }
         ensures wants { self.new.wants + result ≡ self.old.wants }
         ensures place { self.new.place ≡ self.old.place }
-        ensures bucket { HasOneMore self.old.bucket self.new.bucket start result }
-        ensures settled { StaysSettled self.old.bucket self.new.bucket start result }
+        ensures limits { HaveOneMore self.old.limits self.new.limits start result }
+        ensures settled { StaySettled self.old.limits self.new.limits start result }
         ensures turn { (rank : ℕ) (last : Option ℕ) (sid : ℕ)
             → IsTurn rank last sid self.old.turn → IsTurn rank (Some start) sid self.new.turn }
         ensures later { (rank : ℕ) (last : Option ℕ) (sid : ℕ) → IsTurn rank last sid self.old.turn
             → IfSome last (λ m. m ≤ start) → self.old.turn ≤ self.new.turn }
     {
         let limit = self.wants.min(most) as u32;
-        let bytes = self.bucket.take_most(start, limit);
+        let bytes = self.limits.take_most(start, limit);
         self.wants -= u64::from(bytes);
         self.turn = turn_after(self.turn, start);
         bytes
@@ -145,7 +145,7 @@ pub(crate) fn first_able(
     for index in first..queue.len() {
         let waiting = &queue[index];
         let wanted = waiting.wants.min(quantum);
-        if wanted > 0 && wanted <= room.bytes && waiting.bucket.has(start, wanted as u32) {
+        if wanted > 0 && wanted <= room.bytes && waiting.limits.has(start, wanted as u32) {
             return Some(index);
         }
     }
@@ -249,13 +249,13 @@ pub(crate) fn waiting_of(flow: &Flow, place: usize) -> Waiting
     ensures turn { result.turn ≡ flow.now.turn }
     ensures wants { result.wants ≡ outstanding (live flow.now) }
     ensures place { result.place ≡ place }
-    ensures bucket { result.bucket ≡ flow.now.bucket }
+    ensures limits { result.limits ≡ flow.now.limits }
 {
     Waiting {
         turn: flow.turn,
         wants: flow.outstanding(),
         place,
-        bucket: flow.bucket.again(),
+        limits: flow.limits.again(),
     }
 }
 

@@ -31,6 +31,6 @@ loop-place-preserved c =
       );
       sums = λ channel all. copied-set channel flows i e f (omega arith)
           (subst (λ (g : Flow). IsCopy g e) read
-          (record { same = rw c.with_room-flow.ensures.0 refl; granted = refl; turn = refl; bucket = refl }))
+          (record { same = rw c.with_room-flow.ensures.0 refl; granted = refl; turn = refl; limits = refl }))
           (c.loop-place.invariant.sums channel all);
     }

@@ -1,19 +1,19 @@
 -- The first of both parts that may be served is next.
 use Rattle.std.proofs.Common.{sym, arith}
 use Rattle.minislots.proofs.Bounds.{bounds_of}
-use Rattle.flow_book.proofs.Overlays.{next-since, next-later, next-waits}
+use Rattle.flow_book.proofs.Overlays.{next-begun, next-later, next-waits}
 use Rattle.flow_book.proofs.parts.serve_long.Goals as goal
 
 pub put_served-requires-clause-order : goal.put_served-requires-clause-order
 put_served-requires-clause-order c = (c.requires.started.0, c.requires.started.1.order)
 
-pub serve_one-granted-requires-clause-since : goal.serve_one-granted-requires-clause-since
-serve_one-granted-requires-clause-since c =
+pub serve_one-granted-requires-clause-begun : goal.serve_one-granted-requires-clause-begun
+serve_one-granted-requires-clause-begun c =
     let has = c.requires.started.1 in
     let next =
     (rw (c.deref.ensures.value, c.deref-2.ensures.value) at c.in_ok-standing.ensures.next) c.requires.started.0 has in
     let here = rw (c.deref-3.ensures.value, c.deref-4.ensures.value) at c.one_at-waiting.ensures in
-    next-since c.args.config.now c.requires.started.0 c.args.queue.now.items c.args.served.now.items c.args.start
+    next-begun c.args.config.now c.requires.started.0 c.args.queue.now.items c.args.served.now.items c.args.start
     c.args.room.slots c.in_ok-standing.standing c.one_at-waiting.result has next here
 
 pub serve_one-granted-requires-clause-most : goal.serve_one-granted-requires-clause-most

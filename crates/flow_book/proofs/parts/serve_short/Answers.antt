@@ -5,7 +5,7 @@ use Rattle.minislots.proofs.Bounds.{bounds_of}
 use Rattle.flow_book.specs.declared.queue.Waiting.{Waiting}
 use Rattle.flow_book.specs.declared.parts.Standing.TheVariants.{Queued}
 use Rattle.flow_book.proofs.InParts.{queued-part, alone-next}
-use Rattle.flow_book.proofs.Overlays.{next-since, next-later, next-waits}
+use Rattle.flow_book.proofs.Overlays.{next-begun, next-later, next-waits}
 use Rattle.flow_book.proofs.parts.serve_short.Goals as goal
 
 read-here : (queue : List Waiting) (i : ℕ) (w : Waiting) → i < length queue → w ≡ get_or queue i w
@@ -21,8 +21,8 @@ returns-in_err-index-clause-next c = λ items short has.
     (alone-next config items queue [] c.args.start c.args.room.slots has None refl
     ((rw c.deref.ensures.value at c.in_err-index.ensures.next) items part))
 
-pub serve_one-granted-requires-clause-since : goal.serve_one-granted-requires-clause-since
-serve_one-granted-requires-clause-since c =
+pub serve_one-granted-requires-clause-begun : goal.serve_one-granted-requires-clause-begun
+serve_one-granted-requires-clause-begun c =
     let config = c.args.config.now in
     let items = c.requires.started.0 in
     let has = c.requires.started.2 in
@@ -35,7 +35,7 @@ serve_one-granted-requires-clause-since c =
     ((rw c.deref.ensures.value at c.in_ok-index.ensures.next) items part) in
     let here =
     read-here queue index c.index.result.now (rw c.deref.ensures.value at c.in_ok-index.ensures.within) c.index.ensures in
-    next-since config items queue [] c.args.start slots (Queued index) c.index.result.now has is here
+    next-begun config items queue [] c.args.start slots (Queued index) c.index.result.now has is here
 
 pub serve_one-granted-requires-clause-most : goal.serve_one-granted-requires-clause-most
 serve_one-granted-requires-clause-most c =

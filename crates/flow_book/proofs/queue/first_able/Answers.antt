@@ -12,7 +12,7 @@ use Rattle.flow_book.specs.Entry.{live}
 use Rattle.flow_book.specs.Queue.{IsPassed, still_waits}
 use Rattle.minislots.proofs.Bounds.{bounds_of}
 use Rattle.flow_book.proofs.Order.{all-implied}
-use Rattle.flow_book.proofs.Periods.{since-started}
+use Rattle.flow_book.proofs.Periods.{begun-by}
 use Rattle.flow_book.proofs.Serving.{late-behind, wanted-fits, stands-in, entry-may}
 use Rattle.flow_book.proofs.StillWaiting.{kept-more, none-kept}
 use Rattle.flow_book.proofs.queue.first_able.Goals as goal
@@ -38,7 +38,8 @@ has-requires c =
     let is =
     stands-in c.args.config.now c.requires.started.0 c.args.queue.now c.args.start c.loop-index.index w
     c.requires.started.1 c.loop-index-test.true c.index-queue-index.is (omega (arith, c.if-wanted-gt0.true)) in
-    rw (sym is.bucket) (since-started c.args.config.now is.flow c.args.start is.keeps is.started)
+    rw (sym is.limits)
+    (begun-by c.args.config.now (live is.flow) is.flow.limits c.args.start is.keeps.limits is.started)
 
 pub returns-then-has-clause-next : goal.returns-then-has-clause-next
 returns-then-has-clause-next c = λ items has.

@@ -5,12 +5,15 @@ use Rattle.std.proofs.lemmas.Bool.{cases_lt}
 use Rattle.std.proofs.lemmas.Bool.Decides.{nat_tests}
 use Rattle.std.proofs.lemmas.List.Sorted.{IsPartitionPoint-from_clause, IsPartitionedBy-leb}
 use Rattle.std.proofs.lemmas.List.Sums.{position_or_len_is}
+use Rattle.flow_book.specs.Bucket.{BucketView}
 use Rattle.flow_book.specs.declared.queue.Waiting.{Waiting}
 use Rattle.flow_book.proofs.Searches.{rises}
 use Rattle.flow_book.proofs.queue.place_after.Goals as goal
 
 nobody : Waiting
-nobody = record { turn = 0; wants = 0; place = 0; bucket = record { per_slot = 0; full = 0; level = 0; since = 0 } }
+nobody =
+    let none : BucketView = record { per_slot = 0; full = 0; level = 0; since = 0 } in
+    record { turn = 0; wants = 0; place = 0; limits = record { sustained = none; peak = none } }
 
 pub returns-clause-place : goal.returns-clause-place
 returns-clause-place c =

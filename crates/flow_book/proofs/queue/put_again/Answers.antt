@@ -25,7 +25,7 @@ returns-then-waiting-gt0 c =
     among-others place before.0 items moved.others before.1 (rw w.ensures.place at moved.among) in
     rw moved.is (put-among c.requires.book.0 items c.requires.book.1 (λ other. other ≢ place) (λ other. Unit {0})
     moved.others place f here (λ k may. cases_eq k place) (λ k other. tt) others
-    w.result w.ensures.place w.ensures.turn w.ensures.wants w.ensures.bucket (λ differ. differ refl) tt)
+    w.result w.ensures.place w.ensures.turn w.ensures.wants w.ensures.limits (λ differ. differ refl) tt)
 
 pub returns : goal.returns
 returns c =

@@ -36,7 +36,7 @@ loop-place-preserved c =
           (put-among c.requires.0 items c.requires.1 (λ k. k < i) (λ k. k < i + 1) c.loop-place.queue.items i f here
           (only i) (λ k lt. omega arith) c.loop-place.invariant
           c.waiting_of-waiting.result c.waiting_of-waiting.ensures.place c.waiting_of-waiting.ensures.turn
-          c.waiting_of-waiting.ensures.wants c.waiting_of-waiting.ensures.bucket
+          c.waiting_of-waiting.ensures.wants c.waiting_of-waiting.ensures.limits
           (λ lt. absurd (omega arith)) (omega arith))
       | else-waiting-gt0 w ↦ rw w.queue-is
           (pass-among c.requires.0 items c.requires.1 (λ k. k < i) (λ k. k < i + 1) c.loop-place.queue.items i f here

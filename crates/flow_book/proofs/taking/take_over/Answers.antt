@@ -43,7 +43,7 @@ loop-waiting-preserved c = record {
       let e : c.take_over.new.self ≡ record f {
         turn = w.turn;
         granted = f.asked - w.wants;
-        bucket = w.bucket;
+        limits = w.limits;
         grants = grants;
       } = c.take_over.ensures in
       let here = is-here channel old items queue can i w lt is new f long read part in

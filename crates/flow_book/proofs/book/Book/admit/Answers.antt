@@ -14,7 +14,11 @@ use Rattle.flow_book.proofs.Sums.{all-insert}
 use Rattle.flow_book.proofs.book.Book.admit.Goals as goal
 
 new-sound : (c : Config) (sid : ℕ) (spec : FlowSpec) → IsSoundFlow c (new_flow sid spec)
-new-sound c sid spec = record { within = omega arith; kept = λ positive i j le lt. absurd (omega arith) }
+new-sound c sid spec = record {
+  within = omega arith;
+  kept = λ positive i j le lt. absurd (omega arith);
+  peak_kept = λ positive i j le lt. absurd (omega arith);
+}
 
 pub place_above-place-requires : goal.place_above-place-requires
 place_above-place-requires c = c.self.invariant.book.sound.ascending

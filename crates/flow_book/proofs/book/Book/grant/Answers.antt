@@ -1,7 +1,8 @@
 -- The flow in its place has one grant more, for which there was room.
 use Rattle.std.proofs.Common.{◌∙◌, ap, arith}
 use Rattle.flow_book.specs.Flows.{LiveFlow, with_grant}
-use Rattle.flow_book.proofs.Periods.{since-started}
+use Rattle.flow_book.specs.Entry.{live}
+use Rattle.flow_book.proofs.Periods.{begun-by}
 use Rattle.flow_book.proofs.Places.{StandsAt, placed}
 use Rattle.flow_book.proofs.Changes.{placed-changed, placed-is_sound}
 use Rattle.flow_book.proofs.Sums.{placed-sums, granted-book}
@@ -33,13 +34,14 @@ grant-requires-clause-asked c =
     let keeps = placed-sums c.self.inside.config c.args.sid items c.place-place.result f c.self.invariant.book is in
     omega (arith, may.asked, sound.within, keeps.granted)
 
-pub grant-requires-clause-since : goal.grant-requires-clause-since
-grant-requires-clause-since c =
+pub grant-requires-clause-begun : goal.grant-requires-clause-begun
+grant-requires-clause-begun c =
     let is = found c in
     let started = rw (← c.self.view_is, is.found) at c.requires.started in
-    since-started c.self.inside.config c.at_mut.result.now c.args.start
-    (placed-sums c.self.inside.config c.args.sid c.self.inside.flows c.place-place.result c.at_mut.result.now
-    c.self.invariant.book is) started
+    let keeps =
+    placed-sums c.self.inside.config c.args.sid c.self.inside.flows c.place-place.result c.at_mut.result.now
+    c.self.invariant.book is in
+    begun-by c.self.inside.config (live c.at_mut.result.now) c.at_mut.result.now.limits c.args.start keeps.limits started
 
 pub follow-self-inside-requires-clause-book : goal.follow-self-inside-requires-clause-book
 follow-self-inside-requires-clause-book c =

@@ -3,11 +3,11 @@ use Rattle.std.proofs.Common.{◌≡◌, refl, ◌<◌, ◌≤◌, sym, min, ari
 use Rattle.minislots.specs.Units.{slots_for}
 use Rattle.minislots.proofs.Bounds.{bounds_of}
 use Rattle.minislots.proofs.UnitLaws.{fits_bytes, fits_slots}
-use Rattle.flow_book.specs.Bucket.{most_of}
+use Rattle.flow_book.specs.Limits.{most_in}
 use Rattle.flow_book.specs.Flows.{outstanding}
 use Rattle.flow_book.specs.Entry.{live}
-use Rattle.flow_book.proofs.Amounts.{eligible-is, bucket-within}
-use Rattle.flow_book.proofs.Periods.{since-started}
+use Rattle.flow_book.proofs.Amounts.{eligible-is, limits-within}
+use Rattle.flow_book.proofs.Periods.{begun-by}
 use Rattle.flow_book.proofs.flow.Flow.is_eligible.Goals as goal
 use Rattle.flow_book.proofs.flow.Flow.is_eligible.Goals.{then-wanted-eq0-via-then-wanted-eq0}
 use Rattle.flow_book.proofs.flow.Flow.is_eligible.Goals.{then-wanted-eq0-via-else-wanted-eq0+then-from-bytes_in}
@@ -31,7 +31,8 @@ returns-then-wanted-eq0 c =
 
 pub has-requires : goal.has-requires
 has-requires c =
-    since-started c.args.config.now c.args.self.now c.args.start c.requires.sums c.requires.started
+    begun-by c.args.config.now (live c.args.self.now) c.args.self.now.limits c.args.start c.requires.sums.limits
+    c.requires.started
 
 pub returns : goal.returns
 returns c =
@@ -42,8 +43,8 @@ returns c =
     let carries = (bounds_of _ c.quantum.ensures.lawful).bursts in
     let fits : slots_for channel c.min-wanted.result ≤ c.args.room =
     fits_slots channel carries c.min-wanted.result c.args.room some (omega arith) in
-    let most = most_of c.args.self.now.bucket c.args.start c.min-wanted.result in
+    let most = most_in c.args.self.now.limits c.args.start c.min-wanted.result in
     rw c.has.ensures (eligible-is channel f c.args.start c.args.room c.min-wanted.result most
     (sym c.if-not-takes_requests.ensures) limits some fits
-    (bucket-within channel f c.args.self.now.bucket c.args.start c.args.room c.min-wanted.result most
-    c.requires.sums.bucket c.requires.started refl))
+    (limits-within channel f c.args.self.now.limits c.args.start c.args.room c.min-wanted.result most
+    c.requires.sums.limits c.requires.started refl))

@@ -1,15 +1,16 @@
 -- The limit is what is outstanding, capped and fits.
 use Rattle.flow_book.specs.Entry.{live}
-use Rattle.flow_book.proofs.Amounts.{most-in-bucket}
-use Rattle.flow_book.proofs.Periods.{since-started}
+use Rattle.flow_book.proofs.Amounts.{most-in-limits}
+use Rattle.flow_book.proofs.Periods.{begun-by}
 use Rattle.flow_book.proofs.flow.Flow.most.Goals as goal
 
 pub most-requires : goal.most-requires
 most-requires c =
-    since-started c.args.config.now c.args.self.now c.args.start c.requires.sums c.requires.started
+    begun-by c.args.config.now (live c.args.self.now) c.args.self.now.limits c.args.start c.requires.sums.limits
+    c.requires.started
 
 pub returns-clause-most : goal.returns-clause-most
 returns-clause-most c =
-    most-in-bucket c.args.config.now (live c.args.self.now) c.args.self.now.bucket c.args.start c.args.room
+    most-in-limits c.args.config.now (live c.args.self.now) c.args.self.now.limits c.args.start c.args.room
     c.limit-limit.result c.most.result c.limit-limit.ensures.lawful (rw c.bytes_in.ensures.value at c.limit-limit.ensures.value)
-    c.requires.sums.bucket c.requires.started c.most.ensures
+    c.requires.sums.limits c.requires.started c.most.ensures

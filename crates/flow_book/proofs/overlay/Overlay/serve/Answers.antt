@@ -58,7 +58,7 @@ served c =
     is-served c.self.inside.config c.self.invariant.items c.self.inside.queue.items c.self.inside.served.items
     c.serve_first.new.queue.items c.serve_first.new.served.items c.args.start c.args.room c.in_ok-served.served.bytes
     c.most_in-bytes.result f.at f.waiting f.new c.in_ok-served.ensures.lawful (has-started c) f.here f.next
-    c.most_in-bytes.ensures g.amount g.wants g.place g.bucket g.settled g.turn c.self.inside.is_long f.put
+    c.most_in-bytes.ensures g.amount g.wants g.place g.limits g.settled g.turn c.self.inside.is_long f.put
 
 -- its SID is told by its turn
 same-sid : (c : goal.After-self-1) → c.in_ok-served.served.sid ≡ (served c).flow.sid
