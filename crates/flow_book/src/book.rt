@@ -14,6 +14,7 @@ ghost use Rattle.flow_book.specs.Shown.{is_shown, ack_of};
 ghost use Rattle.flow_book.specs.Book.{IsLive, Ascend, KeepsRoom, room_of, new_flow, with_flow, without, changed};
 ghost use Rattle.flow_book.specs.Book.{with_asked, with_replaced, with_spec};
 
+use crate::channel::Channel;
 use crate::flow::{Flow, Room, first_eligible, reserve_each};
 use crate::flows::Flows;
 use crate::overlay::Overlay;
@@ -28,7 +29,7 @@ use std::marker::Model;
 /// and its data grants, and room for so many more grants.
 #[derive(Drop)]
 pub struct Book {
-    config: Checked,
+    channel: Channel,
     flows: Flows,
     // The flows that wait, by their turns, where they are known.
     queue: Vec<Waiting>,
@@ -45,12 +46,12 @@ impl Model for Book {
     ghost use Rattle.flow_book.specs.Queue.{IsQueuedBook};
 
     ghost view = { λ b. record {
-      config = b.config;
+      config = b.channel;
       flows = map live b.flows;
       rooms = map room_in b.flows;
     } };
 
-    ghost invariant = { λ b. IsQueuedBook b.config b.flows b.queue.items b.is_queued };
+    ghost invariant = { λ b. IsQueuedBook b.channel b.flows b.queue.items b.is_queued };
 }
 
 // The place of the live flow with this SID.
@@ -99,7 +100,7 @@ impl Book {
         ensures empty { IfOk result (λ book. book.flows ≡ []) }
     {
         Ok(Book {
-            config,
+            channel: Channel::of(alloc, config)?,
             flows: Flows::new(alloc),
             queue: Vec::new(alloc),
             is_queued: true,
@@ -110,7 +111,7 @@ impl Book {
     pub fn config(&self) -> &Checked
         ensures value { result.now ≡ self.now.config }
     {
-        &self.config
+        self.channel.config()
     }
 
     /// How many flows are live.
@@ -193,7 +194,7 @@ impl Book {
         ensures room { KeepsRoom self.old.rooms self.new.rooms }
     {
         let place = self.flows.place_above(sid);
-        let flow = Flow::open(&self.config, sid, spec);
+        let flow = Flow::open(self.channel.config(), sid, spec);
         make_room(&mut self.queue, self.flows.len())?;
         self.flows.insert(place, flow)?;
         make_way(&mut self.queue, self.is_queued, place);
@@ -250,7 +251,7 @@ impl Book {
         ensures { self.new ≡ record self.old { flows = changed sid (with_spec spec) self.old.flows } }
     {
         let place = self.place(sid);
-        self.flows.at_mut(place).change(&self.config, spec);
+        self.flows.at_mut(place).change(self.channel.config(), spec);
         self.is_queued = follow(&mut self.queue, self.is_queued, &self.flows, place);
     }
 
@@ -263,7 +264,7 @@ impl Book {
         ensures { IfSome (flow_of sid self.now.flows)
             (λ f. IsMost self.now.config f start room result) }
     {
-        self.at(sid).most(&self.config, start, room)
+        self.at(sid).most(self.channel.config(), start, room)
     }
 
     /// The SID of the flow that a data grant at minislot `start`, with `room` minislots before what
@@ -276,9 +277,10 @@ impl Book {
     {
         let queue = &self.queue;
         let flows = &self.flows;
-        let bytes = self.config.most_in(room);
+        let config = self.channel.config();
+        let bytes = config.most_in(room);
         let room = Room { slots: room, bytes };
-        match next_place(queue, self.is_queued, flows, &self.config, start, room) {
+        match next_place(queue, self.is_queued, flows, config, start, room) {
             Some(place) => Some(self.sid_at(place)),
             None => None,
         }
@@ -333,7 +335,7 @@ impl Book {
         } else {
             queue_of(self.flows.allocator(), &self.flows)?
         };
-        Overlay::over(&self.config, &self.flows, queue)
+        Overlay::over(&self.channel, &self.flows, queue)
     }
 
     /// The flows that the MAP of an overlay shows by pending grants, in order of SID, and its acknowledge time, where all

@@ -5,6 +5,7 @@
 mod batches;
 mod book;
 mod bucket;
+mod channel;
 mod flow;
 mod flow_list;
 mod flows;

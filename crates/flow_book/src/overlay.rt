@@ -10,6 +10,7 @@ ghost use Rattle.flow_book.specs.Queue.{IsQueue, HasRoom};
 ghost use Rattle.flow_book.specs.Shown.{is_shown, ack_of};
 ghost use Rattle.flow_book.specs.Book.{changed};
 
+use crate::channel::Channel;
 use crate::flow::{Grant, Room, Served};
 use crate::flow_list::{FlowList, list_of};
 use crate::flows::Flows;
@@ -40,7 +41,7 @@ fn room_for_served(queue: &Vec<Waiting>, is_long: bool) -> Result<Vec<Waiting>, 
 /// that the MAP serves.
 #[derive(Drop)]
 pub struct Overlay {
-    config: Checked,
+    channel: Channel,
     // The flows that waited before the MAP, by their turns. Where they are many one that it served wants nothing here,
     // and else it has here what it still wants.
     queue: Vec<Waiting>,
@@ -63,27 +64,27 @@ impl Model for Overlay {
     ghost use Rattle.flow_book.specs.Overlay.{IsOverlay};
 
     ghost view = { λ o. record {
-      config = o.config;
+      config = o.channel;
       before = o.before.items;
       flows = o.flows.items;
     } };
 
     ghost invariant = { λ o.
-        IsOverlay o.config o.before.items o.flows.items o.is_long o.queue.items o.served.items
+        IsOverlay o.channel o.before.items o.flows.items o.is_long o.queue.items o.served.items
         (vec_capacity o.served) o.first };
 }
 
 impl Overlay {
     // That of a book with these flows and this queue, before any grant.
     pub(crate) fn over(
-        config: &Checked,
+        channel: &Channel,
         flows: &Flows,
         queue: Vec<Waiting>,
     ) -> Result<Overlay, AllocError>
-        requires book { IsBook config.now flows.now }
+        requires book { IsBook channel.now flows.now }
         requires queue { IsQueue flows.now queue.items }
         ensures { IfOk result (λ overlay. overlay ≡ record {
-          config = config.now;
+          config = channel.now;
           before = map live flows.now;
           flows = map live flows.now;
         }) }
@@ -92,7 +93,7 @@ impl Overlay {
         let served = room_for_served(&queue, is_long)?;
         let before = list_of(flows);
         Ok(Overlay {
-            config: *config,
+            channel: channel.again()?,
             queue,
             first: 0,
             served,
@@ -106,7 +107,7 @@ impl Overlay {
     pub fn config(&self) -> &Checked
         ensures value { result.now ≡ self.now.config }
     {
-        &self.config
+        self.channel.config()
     }
 
     /// Grants the flow that is next at minislot `start`, with `room` minislots before what comes next
@@ -126,9 +127,9 @@ impl Overlay {
         ensures config { self.new.config ≡ self.old.config }
         ensures before { self.new.before ≡ self.old.before }
     {
-        let bytes = self.config.most_in(room);
+        let config = self.channel.config();
+        let bytes = config.most_in(room);
         let room = Room { slots: room, bytes };
-        let config = &self.config;
         let served = serve_first(
             &mut self.queue,
             &mut self.first,
@@ -151,7 +152,7 @@ impl Overlay {
             ≡ map (λ f. f.sid) (filter (is_shown self.now.config.pending self.now.flows) self.now.flows)) }
         ensures ack { IfOk result (λ s. s.ack ≡ ack_of self.now.config.pending progress self.now.flows) }
     {
-        let most = self.config.pending() as usize;
+        let most = self.channel.config().pending() as usize;
         show(
             *self.queue.allocator(),
             &self.queue,

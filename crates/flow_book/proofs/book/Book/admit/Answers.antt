@@ -45,7 +45,7 @@ returns-clause-ok c =
 pub invariant_of-self-2 : goal.invariant_of-self-2
 invariant_of-self-2 c =
     let items = c.self.inside.flows in
-    let config = c.self.inside.config in
+    let config = c.self.inside.channel in
     let flows = rw (← c.self.view_is) at (returns-clause-ok c) in
     let none = rw (← c.self.view_is) at c.requires in
     let place : c.place_above-place.result ≡ position_or_len (λ f. nat_lt c.args.sid f.sid) items =
@@ -60,7 +60,7 @@ invariant_of-self-2 c =
         sound = rw flows (sound-with_flow config (new_flow c.args.sid c.args.spec) (map live items) none
             (new-sound config c.args.sid c.args.spec) c.self.invariant.book.sound);
         sums = rw c.in_ok-insert.ensures.ok (all-insert (KeepsSums config) items c.place_above-place.result
-            c.open-flow.result c.self.invariant.book.sums c.open-flow.ensures.sums);
+            c.open-flow.result c.self.invariant.book.sums (rw c.config.ensures at c.open-flow.ensures.sums));
       };
     }
 

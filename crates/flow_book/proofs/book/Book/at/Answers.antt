@@ -16,11 +16,11 @@ returns-clause-found c = rw (← c.self.view_is) (stands c).found
 pub returns-clause-sound : goal.returns-clause-sound
 returns-clause-sound c =
     rw (← c.self.view_is)
-    (placed-is_sound c.self.inside.config c.args.sid c.self.inside.flows c.place.result c.at.result.now
+    (placed-is_sound c.self.inside.channel c.args.sid c.self.inside.flows c.place.result c.at.result.now
     c.self.invariant.book.sound (stands c))
 
 pub returns-clause-sums : goal.returns-clause-sums
 returns-clause-sums c =
     rw (← c.self.view_is)
-    (placed-sums c.self.inside.config c.args.sid c.self.inside.flows c.place.result c.at.result.now
+    (placed-sums c.self.inside.channel c.args.sid c.self.inside.flows c.place.result c.at.result.now
     c.self.invariant.book (stands c))

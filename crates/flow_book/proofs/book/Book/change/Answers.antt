@@ -11,7 +11,7 @@ use Rattle.flow_book.proofs.book.Book.change.Goals as goal
 
 pub follow-self-inside-requires-clause-book : goal.follow-self-inside-requires-clause-book
 follow-self-inside-requires-clause-book c =
-    let config = c.self.inside.config in
+    let config = c.self.inside.channel in
     let items = c.self.inside.flows in
     let f = c.at_mut.result.now in
     let is =
@@ -21,7 +21,7 @@ follow-self-inside-requires-clause-book c =
     let kind = rw (← c.self.view_is, is.found) at c.requires.kind in (
       config,
       changed-book config c.args.sid c.args.spec items c.place-place.result c.change.new.self f
-          c.self.invariant.book is c.change.ensures.live (c.change.ensures.sums kind keeps),
+          c.self.invariant.book is c.change.ensures.live ((rw c.config.ensures at c.change.ensures.sums) kind keeps),
     )
 
 pub follow-self-inside-requires-clause-queue : goal.follow-self-inside-requires-clause-queue
@@ -34,7 +34,7 @@ follow-self-inside-requires-clause-queue c = λ known.
 
 pub invariant_of-self : goal.invariant_of-self
 invariant_of-self c =
-    let config = c.self.inside.config in
+    let config = c.self.inside.channel in
     let items = c.self.inside.flows in
     let f = c.at_mut.result.now in
     let is =
@@ -44,7 +44,7 @@ invariant_of-self c =
     let kind = rw (← c.self.view_is, is.found) at c.requires.kind in
     record {
       book = changed-book config c.args.sid c.args.spec items c.place-place.result c.change.new.self f
-          c.self.invariant.book is c.change.ensures.live (c.change.ensures.sums kind keeps);
+          c.self.invariant.book is c.change.ensures.live ((rw c.config.ensures at c.change.ensures.sums) kind keeps);
       order = λ known. c.follow-self-inside.ensures known;
     }
 
@@ -57,7 +57,7 @@ returns c =
     placed c.args.sid items c.place-place.result f (rw (← c.self.view_is) at c.place-place.ensures)
     c.at_mut.ensures.value in
     rw (← c.self.view_is)
-    (same-view c.self.inside.config _ _ _ _
+    (same-view c.self.inside.channel _ _ _ _
     (placed-changed c.args.sid (with_spec c.args.spec) items c.place-place.result e f
     c.self.invariant.book.sound.ascending is c.change.ensures.live)
     (map-set_same room_in items c.place-place.result e f (c.change.ensures.room ∙ ap room_in c.at_mut.ensures.value)))

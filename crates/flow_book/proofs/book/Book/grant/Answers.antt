@@ -30,8 +30,8 @@ grant-requires-clause-asked c =
     let is = found c in
     let may = rw (← c.self.view_is, is.found) at c.requires.lawful in
     let sound =
-    placed-is_sound c.self.inside.config c.args.sid items c.place-place.result f c.self.invariant.book.sound is in
-    let keeps = placed-sums c.self.inside.config c.args.sid items c.place-place.result f c.self.invariant.book is in
+    placed-is_sound c.self.inside.channel c.args.sid items c.place-place.result f c.self.invariant.book.sound is in
+    let keeps = placed-sums c.self.inside.channel c.args.sid items c.place-place.result f c.self.invariant.book is in
     omega (arith, may.asked, sound.within, keeps.granted)
 
 pub grant-requires-clause-begun : goal.grant-requires-clause-begun
@@ -39,13 +39,13 @@ grant-requires-clause-begun c =
     let is = found c in
     let started = rw (← c.self.view_is, is.found) at c.requires.started in
     let keeps =
-    placed-sums c.self.inside.config c.args.sid c.self.inside.flows c.place-place.result c.at_mut.result.now
+    placed-sums c.self.inside.channel c.args.sid c.self.inside.flows c.place-place.result c.at_mut.result.now
     c.self.invariant.book is in
-    begun-by c.self.inside.config (live c.at_mut.result.now) c.at_mut.result.now.limits c.args.start keeps.limits started
+    begun-by c.self.inside.channel (live c.at_mut.result.now) c.at_mut.result.now.limits c.args.start keeps.limits started
 
 pub follow-self-inside-requires-clause-book : goal.follow-self-inside-requires-clause-book
 follow-self-inside-requires-clause-book c =
-    let config = c.self.inside.config in
+    let config = c.self.inside.channel in
     let items = c.self.inside.flows in
     let f = c.at_mut.result.now in
     let is =
@@ -76,7 +76,7 @@ stands c =
 
 pub invariant_of-self : goal.invariant_of-self
 invariant_of-self c =
-    let config = c.self.inside.config in
+    let config = c.self.inside.channel in
     let items = c.self.inside.flows in
     let is = stands c in
     let may = rw (← c.self.view_is, is.found) at c.requires.lawful in

@@ -18,15 +18,15 @@ inside c =
 
 pub outstanding-requires-clause-sum : goal.outstanding-requires-clause-sum
 outstanding-requires-clause-sum c =
-    let keeps : KeepsSums c.self.inside.config c.at.result.now =
-    rw c.at.ensures (All-from_recursion (KeepsSums c.self.inside.config) c.self.inside.flows
+    let keeps : KeepsSums c.self.inside.channel c.at.result.now =
+    rw c.at.ensures (All-from_recursion (KeepsSums c.self.inside.channel) c.self.inside.flows
     c.self.invariant.book.sums c.args.index c.at.result.now (inside c)) in
     keeps.granted
 
 pub outstanding-requires-clause-within : goal.outstanding-requires-clause-within
 outstanding-requires-clause-within c =
     (all-item live c.self.inside.flows c.args.index c.at.result.now (inside c) c.at.ensures
-    (IsSoundFlow c.self.inside.config) c.self.invariant.book.sound.each).within
+    (IsSoundFlow c.self.inside.channel) c.self.invariant.book.sound.each).within
 
 pub returns : goal.returns
 returns c =

@@ -22,13 +22,13 @@ left c =
 pub invariant_of-self : goal.invariant_of-self
 invariant_of-self c =
     let items = c.self.inside.flows in
-    let sound : IsSoundBook c.self.inside.config (map live (filter (λ (f : Flow). not (f.sid == c.args.sid)) items)) =
+    let sound : IsSoundBook c.self.inside.channel (map live (filter (λ (f : Flow). not (f.sid == c.args.sid)) items)) =
     rw (map-filter live (λ (f : LiveFlow). not (f.sid == c.args.sid)) items)
-    (sound-filter c.self.inside.config (λ f. not (f.sid == c.args.sid)) (map live items) c.self.invariant.book.sound) in
+    (sound-filter c.self.inside.channel (λ f. not (f.sid == c.args.sid)) (map live items) c.self.invariant.book.sound) in
     rw (left c) (record {
       book = record {
         sound = sound;
-        sums = all-filter (KeepsSums c.self.inside.config) (λ f. not (f.sid == c.args.sid)) items
+        sums = all-filter (KeepsSums c.self.inside.channel) (λ f. not (f.sid == c.args.sid)) items
             c.self.invariant.book.sums;
       };
       order = λ known.

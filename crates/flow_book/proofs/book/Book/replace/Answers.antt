@@ -16,7 +16,7 @@ replace-requires-clause-sum c =
     let is =
     placed c.args.sid items c.place-place.result f (rw (← c.self.view_is) at c.place-place.ensures)
     c.at_mut.ensures.value in
-    (placed-sums c.self.inside.config c.args.sid items c.place-place.result f c.self.invariant.book is).granted
+    (placed-sums c.self.inside.channel c.args.sid items c.place-place.result f c.self.invariant.book is).granted
 
 pub replace-requires-clause-fits : goal.replace-requires-clause-fits
 replace-requires-clause-fits c =
@@ -34,8 +34,8 @@ follow-self-inside-requires-clause-book c =
     let is =
     placed c.args.sid items c.place-place.result f (rw (← c.self.view_is) at c.place-place.ensures)
     c.at_mut.ensures.value in (
-      c.self.inside.config,
-      rw c.replace.ensures (replaced-book c.self.inside.config c.args.sid c.args.bytes c.args.heard
+      c.self.inside.channel,
+      rw c.replace.ensures (replaced-book c.self.inside.channel c.args.sid c.args.bytes c.args.heard
           items c.place-place.result f c.self.invariant.book is (rw (← c.self.view_is, is.found) at c.requires.asks)),
     )
 
@@ -55,7 +55,7 @@ invariant_of-self c =
     placed c.args.sid items c.place-place.result f (rw (← c.self.view_is) at c.place-place.ensures)
     c.at_mut.ensures.value in
     record {
-      book = rw c.replace.ensures (replaced-book c.self.inside.config c.args.sid c.args.bytes c.args.heard items
+      book = rw c.replace.ensures (replaced-book c.self.inside.channel c.args.sid c.args.bytes c.args.heard items
           c.place-place.result f c.self.invariant.book is (rw (← c.self.view_is, is.found) at c.requires.asks));
       order = λ known. c.follow-self-inside.ensures known;
     }
@@ -69,7 +69,7 @@ returns c =
     placed c.args.sid items c.place-place.result f (rw (← c.self.view_is) at c.place-place.ensures)
     c.at_mut.ensures.value in
     rw (← c.self.view_is)
-    (same-view c.self.inside.config _ _ _ _
+    (same-view c.self.inside.channel _ _ _ _
     (placed-changed c.args.sid (with_replaced c.args.bytes c.args.heard) items c.place-place.result e f
     c.self.invariant.book.sound.ascending is (ap live c.replace.ensures))
     (map-set_same room_in items c.place-place.result e f (ap room_in c.replace.ensures

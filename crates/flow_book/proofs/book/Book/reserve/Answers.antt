@@ -15,14 +15,14 @@ book c old new same sums is = record { sound = rw same is.sound; sums = sums c i
 
 pub queue_of-requires : goal.queue_of-requires
 queue_of-requires c = (
-  c.self.inside.config,
-  book c.self.inside.config c.self.inside.flows c.reserve_each.new.flows c.reserve_each.ensures.same
+  c.self.inside.channel,
+  book c.self.inside.channel c.self.inside.flows c.reserve_each.new.flows c.reserve_each.ensures.same
       c.reserve_each.ensures.sums c.self.invariant.book,
 )
 
 pub invariant_of-self-else-not-self : goal.invariant_of-self-else-not-self
 invariant_of-self-else-not-self c = record {
-  book = book c.self.inside.config c.self.inside.flows c.reserve_each.new.flows c.reserve_each.ensures.same
+  book = book c.self.inside.channel c.self.inside.flows c.reserve_each.new.flows c.reserve_each.ensures.same
       c.reserve_each.ensures.sums c.self.invariant.book;
   order = λ known. same-queue c.self.inside.flows c.reserve_each.new.flows c.reserve_each.ensures.same
       c.reserve_each.ensures.entries c.self.inside.queue.items (c.self.invariant.order known);
@@ -30,14 +30,14 @@ invariant_of-self-else-not-self c = record {
 
 pub invariant_of-self-then-not-self : goal.invariant_of-self-then-not-self
 invariant_of-self-then-not-self c = record {
-  book = book c.self.inside.config c.self.inside.flows c.reserve_each.new.flows c.reserve_each.ensures.same
+  book = book c.self.inside.channel c.self.inside.flows c.reserve_each.new.flows c.reserve_each.ensures.same
       c.reserve_each.ensures.sums c.self.invariant.book;
   order = λ known. c.in_ok-self-inside.ensures;
 }
 
 pub invariant_of-self : goal.invariant_of-self
 invariant_of-self c = record {
-  book = book c.self.inside.config c.self.inside.flows c.reserve_each.new.flows c.reserve_each.ensures.same
+  book = book c.self.inside.channel c.self.inside.flows c.reserve_each.new.flows c.reserve_each.ensures.same
       c.reserve_each.ensures.sums c.self.invariant.book;
   order = λ known. absurd (true≢false (sym known ∙ c.if-not-self.true));
 }

@@ -4,6 +4,6 @@ use Rattle.flow_book.proofs.overlay.Overlay.over.Goals as goal
 
 pub invariant_of-result : goal.invariant_of-result
 invariant_of-result c =
-    rw (c.same.ensures, c.list_of-before.ensures, c.in_ok-served.ensures.none)
-    (over-book c.args.config.now c.args.flows.now _ c.args.queue.items _ c.requires.book c.requires.queue
+    rw (c.in_ok-again.ensures, c.same.ensures, c.list_of-before.ensures, c.in_ok-served.ensures.none)
+    (over-book c.args.channel.now c.args.flows.now _ c.args.queue.items _ c.requires.book c.requires.queue
     c.in_ok-served.ensures.room)

@@ -20,14 +20,14 @@ take_over-requires c =
     let served = inside.served.items in
     let old = c.args.flows.now in
     let is-before : map live old ≡ inside.before.items = rw (← c.self.view_is) at c.requires.1 in
-    let can : CanBeTaken inside.config old o.items served =
-    subst (λ b. CanBeTaken inside.config old o.items (served_of b queue served)) c.if-self.true
-    (can-be-taken inside.config inside.before.items inside.flows.items inside.is_long queue served _ inside.first old o
+    let can : CanBeTaken inside.channel old o.items served =
+    subst (λ b. CanBeTaken inside.channel old o.items (served_of b queue served)) c.if-self.true
+    (can-be-taken inside.channel inside.before.items inside.flows.items inside.is_long queue served _ inside.first old o
     (rw (← c.self.view_is) at c.requires.0) is-before) in
-    (inside.config, o.items, rw c.deref.ensures.value can, o.shows)
+    (inside.channel, o.items, rw c.deref.ensures.value can, o.shows)
 
 -- where many waited those served are taken over
-taken-long : (c : goal.After-drop-self-inside-then-self) → IsTaken c.self.inside.config c.take_over.new.flows
+taken-long : (c : goal.After-drop-self-inside-then-self-2) → IsTaken c.self.inside.channel c.take_over.new.flows
     c.self.invariant.items
 taken-long c =
     let inside = c.self.inside in
@@ -36,11 +36,11 @@ taken-long c =
     let served = inside.served.items in
     let old = c.args.flows.now in
     let is-before : map live old ≡ inside.before.items = rw (← c.self.view_is) at c.requires.1 in
-    let can : CanBeTaken inside.config old o.items served =
-    subst (λ b. CanBeTaken inside.config old o.items (served_of b queue served)) c.if-self.true
-    (can-be-taken inside.config inside.before.items inside.flows.items inside.is_long queue served _ inside.first old o
+    let can : CanBeTaken inside.channel old o.items served =
+    subst (λ b. CanBeTaken inside.channel old o.items (served_of b queue served)) c.if-self.true
+    (can-be-taken inside.channel inside.before.items inside.flows.items inside.is_long queue served _ inside.first old o
     (rw (← c.self.view_is) at c.requires.0) is-before) in
-    (rw c.deref.ensures.value at c.take_over.ensures) inside.config o.items can o.shows
+    (rw c.deref.ensures.value at c.take_over.ensures) inside.channel o.items can o.shows
 
 pub returns-then-self-clause-book : goal.returns-then-self-clause-book
 returns-then-self-clause-book c =
@@ -56,10 +56,10 @@ returns-then-self-clause-order c = λ whole.
     let new = c.take_over.new.flows in
     let is = taken-long c in
     let parts =
-    same-parts inside.config new o.items queue served is.book o.book is.shows
+    same-parts inside.channel new o.items queue served is.book o.book is.shows
     (order-in inside.is_long o.items queue served o.order) in
     (rw (c.deref-then-self.ensures.value, c.deref-then-self-2.ensures.value)
-    at (on-ok c.merge.result _ (sym c.is_ok.ensures.value ∙ whole) c.merge.ensures)) inside.config new is.book parts
+    at (on-ok c.merge.result _ (sym c.is_ok.ensures.value ∙ whole) c.merge.ensures)) inside.channel new is.book parts
 
 pub take_over-requires-2 : goal.take_over-requires-2
 take_over-requires-2 c =
@@ -69,14 +69,14 @@ take_over-requires-2 c =
     let served = inside.served.items in
     let old = c.args.flows.now in
     let is-before : map live old ≡ inside.before.items = rw (← c.self.view_is) at c.requires.1 in
-    let can : CanBeTaken inside.config old o.items queue =
-    subst (λ b. CanBeTaken inside.config old o.items (served_of b queue served)) c.if-self.false
-    (can-be-taken inside.config inside.before.items inside.flows.items inside.is_long queue served _ inside.first old o
+    let can : CanBeTaken inside.channel old o.items queue =
+    subst (λ b. CanBeTaken inside.channel old o.items (served_of b queue served)) c.if-self.false
+    (can-be-taken inside.channel inside.before.items inside.flows.items inside.is_long queue served _ inside.first old o
     (rw (← c.self.view_is) at c.requires.0) is-before) in
-    (inside.config, o.items, rw c.deref-2.ensures.value can, o.shows)
+    (inside.channel, o.items, rw c.deref-2.ensures.value can, o.shows)
 
 -- where few waited those of the queue are taken over
-taken : (c : goal.After-drop-self-inside-3) → IsTaken c.self.inside.config c.take_over-2.new.flows c.self.invariant.items
+taken : (c : goal.After-drop-self-inside-4) → IsTaken c.self.inside.channel c.take_over-2.new.flows c.self.invariant.items
 taken c =
     let inside = c.self.inside in
     let o = c.self.invariant in
@@ -84,11 +84,11 @@ taken c =
     let served = inside.served.items in
     let old = c.args.flows.now in
     let is-before : map live old ≡ inside.before.items = rw (← c.self.view_is) at c.requires.1 in
-    let can : CanBeTaken inside.config old o.items queue =
-    subst (λ b. CanBeTaken inside.config old o.items (served_of b queue served)) c.if-self.false
-    (can-be-taken inside.config inside.before.items inside.flows.items inside.is_long queue served _ inside.first old o
+    let can : CanBeTaken inside.channel old o.items queue =
+    subst (λ b. CanBeTaken inside.channel old o.items (served_of b queue served)) c.if-self.false
+    (can-be-taken inside.channel inside.before.items inside.flows.items inside.is_long queue served _ inside.first old o
     (rw (← c.self.view_is) at c.requires.0) is-before) in
-    (rw c.deref-2.ensures.value at c.take_over-2.ensures) inside.config o.items can o.shows
+    (rw c.deref-2.ensures.value at c.take_over-2.ensures) inside.channel o.items can o.shows
 
 pub returns-clause-book : goal.returns-clause-book
 returns-clause-book c =
@@ -106,5 +106,5 @@ returns-clause-order c = λ whole.
     on-ok c.put_back.result (c.put_back.new.to.items ≡ filter still_waits c.deref-3.result.now)
     (sym c.is_ok-2.ensures.value ∙ whole) c.put_back.ensures in
     subst (IsQueue c.take_over-2.new.flows) (sym (put ∙ ap (filter still_waits) c.deref-3.ensures.value))
-    (same-queue inside.config c.take_over-2.new.flows o.items (filter still_waits queue) is.book o.book is.shows
+    (same-queue inside.channel c.take_over-2.new.flows o.items (filter still_waits queue) is.book o.book is.shows
     order.0.waiting)

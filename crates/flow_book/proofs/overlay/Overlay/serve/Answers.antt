@@ -17,48 +17,50 @@ pub serve_first-requires-clause-started : goal.serve_first-requires-clause-start
 serve_first-requires-clause-started c =
     let o = c.self.invariant in
     let has =
-    started-queue c.self.inside.config c.self.inside.before.items c.self.inside.flows.items c.self.inside.is_long
+    started-queue c.self.inside.channel c.self.inside.before.items c.self.inside.flows.items c.self.inside.is_long
     c.self.inside.queue.items c.self.inside.served.items _ c.self.inside.first c.args.start o
     (rw (← c.self.view_is) at c.requires.started) in
-    (o.items, o.order, has)
+    (o.items, o.order, rw c.config-config.ensures has)
 
 pub returns-in_err-served-clause-next : goal.returns-in_err-served-clause-next
 returns-in_err-served-clause-next c =
     let o = c.self.invariant in
-    let config = c.self.inside.config in
+    let config = c.self.inside.channel in
     let has =
     started-queue config c.self.inside.before.items c.self.inside.flows.items c.self.inside.is_long
     c.self.inside.queue.items c.self.inside.served.items _ c.self.inside.first c.args.start o
     (rw (← c.self.view_is) at c.requires.started) in
-    let none = c.in_err-served.ensures.next o.items o.order has in
+    let none = (rw c.config-config.ensures at c.in_err-served.ensures.next) o.items o.order has in
     rw (← c.self.view_is, c.from_residual.ensures)
     (subst (λ fs. NoneEligible config fs c.args.start c.args.room) o.shows none)
 
 -- all its grants have started
-has-started : (c : goal.After-self-1) → HasStartedIn c.self.inside.config c.self.invariant.items c.self.inside.queue.items
+has-started : (c : goal.After-self-1) → HasStartedIn c.self.inside.channel c.self.invariant.items c.self.inside.queue.items
     c.self.inside.served.items c.args.start
 has-started c =
-    started-queue c.self.inside.config c.self.inside.before.items c.self.inside.flows.items c.self.inside.is_long
+    started-queue c.self.inside.channel c.self.inside.before.items c.self.inside.flows.items c.self.inside.is_long
     c.self.inside.queue.items c.self.inside.served.items _ c.self.inside.first c.args.start c.self.invariant
     (rw (← c.self.view_is) at c.requires.started)
 
 -- the first is served
-first : (c : goal.After-self-1) → IsServedFirst c.self.inside.config c.self.inside.is_long c.self.invariant.items
+first : (c : goal.After-self-1) → IsServedFirst c.self.inside.channel c.self.inside.is_long c.self.invariant.items
     c.self.inside.queue.items c.self.inside.served.items c.serve_first.new.queue.items c.serve_first.new.served.items
     c.args.start c.args.room c.most_in-bytes.result c.in_ok-served.served.sid c.in_ok-served.served.bytes
-first c = c.in_ok-served.ensures.next c.self.invariant.items c.self.invariant.order (has-started c)
+first c =
+    (rw c.config-config.ensures at c.in_ok-served.ensures.next) c.self.invariant.items c.self.invariant.order
+    (has-started c)
 
 -- the flow is served
-served : (c : goal.After-self-1) → IsServed c.self.inside.config c.self.invariant.items c.self.inside.is_long
+served : (c : goal.After-self-1) → IsServed c.self.inside.channel c.self.invariant.items c.self.inside.is_long
     c.self.inside.queue.items c.self.inside.served.items c.serve_first.new.queue.items c.serve_first.new.served.items
     c.args.start c.args.room c.in_ok-served.served.bytes (first c).waiting (first c).new
 served c =
     let f = first c in
     let g = f.granted in
-    is-served c.self.inside.config c.self.invariant.items c.self.inside.queue.items c.self.inside.served.items
+    is-served c.self.inside.channel c.self.invariant.items c.self.inside.queue.items c.self.inside.served.items
     c.serve_first.new.queue.items c.serve_first.new.served.items c.args.start c.args.room c.in_ok-served.served.bytes
-    c.most_in-bytes.result f.at f.waiting f.new c.in_ok-served.ensures.lawful (has-started c) f.here f.next
-    c.most_in-bytes.ensures g.amount g.wants g.place g.limits g.settled g.turn c.self.inside.is_long f.put
+    c.most_in-bytes.result f.at f.waiting f.new (rw c.config-config.ensures at c.in_ok-served.ensures.lawful) (has-started c) f.here f.next
+    (rw c.config-config.ensures at c.most_in-bytes.ensures) g.amount g.wants g.place g.limits g.settled g.turn c.self.inside.is_long f.put
 
 -- its SID is told by its turn
 same-sid : (c : goal.After-self-1) → c.in_ok-served.served.sid ≡ (served c).flow.sid
@@ -71,7 +73,7 @@ invariant_of-self-2 c =
     let o = c.self.invariant in
     let is = served c in
     let grant : Grant = record { start = c.args.start; bytes = c.in_ok-served.served.bytes } in
-    let config = c.self.inside.config in
+    let config = c.self.inside.channel in
     let before = c.self.inside.before.items in
     let is_long = c.self.inside.is_long in
     let old = served_of is_long c.self.inside.queue.items c.self.inside.served.items in
@@ -98,7 +100,7 @@ invariant_of-self-2 c =
 pub returns-clause-next : goal.returns-clause-next
 returns-clause-next c =
     let is = served c in
-    let config = c.self.inside.config in
+    let config = c.self.inside.channel in
     let flows = map live c.self.invariant.items in
     let here : IsSomeAnd (flow_of is.flow.sid flows) (IsNext config flows c.args.start c.args.room) =
     rw is.found.stands.found is.found.next in
@@ -111,7 +113,7 @@ returns-clause-next c =
 pub returns-clause-amount : goal.returns-clause-amount
 returns-clause-amount c =
     let is = served c in
-    let config = c.self.inside.config in
+    let config = c.self.inside.channel in
     let bytes = c.in_ok-served.served.bytes in
     let flows = map live c.self.invariant.items in
     let here : IfSome (flow_of is.flow.sid flows) (λ f. IsAmount config f c.args.start c.args.room bytes) =

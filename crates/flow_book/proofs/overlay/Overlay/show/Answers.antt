@@ -12,7 +12,7 @@ pub show-requires-clause-queue : goal.show-requires-clause-queue
 show-requires-clause-queue c =
     let is = c.self.invariant in
     let before : map live c.args.flows.now ≡ c.self.inside.before.items = rw (← c.self.view_is) at c.requires in (
-      c.self.inside.config,
+      c.self.inside.channel,
       is.items,
       is.book,
       rw (c.deref.ensures.value, c.deref-2.ensures.value)
@@ -28,8 +28,8 @@ returns-clause-pending c =
     (order-in c.self.inside.is_long is.items c.self.inside.queue.items c.self.inside.served.items is.order) in
     let before : map live c.args.flows.now ≡ c.self.inside.before.items = rw (← c.self.view_is) at c.requires in
     let same : AllZip IsSameFlow (map live c.args.flows.now) (map live is.items) = rw (before, is.shows) is.same in
-    rw (← c.self.view_is, sym is.shows, sym c.pending-most.ensures.value)
-    (IfOk-weaker c.show.result _ _ (λ s holds. holds c.self.inside.config is.items is.book order same)
+    rw (← c.self.view_is, sym is.shows, sym (rw c.config.ensures at c.pending-most.ensures.value))
+    (IfOk-weaker c.show.result _ _ (λ s holds. holds c.self.inside.channel is.items is.book order same)
     c.show.ensures.pending)
 
 pub returns-clause-ack : goal.returns-clause-ack
@@ -40,6 +40,6 @@ returns-clause-ack c =
     (order-in c.self.inside.is_long is.items c.self.inside.queue.items c.self.inside.served.items is.order) in
     let before : map live c.args.flows.now ≡ c.self.inside.before.items = rw (← c.self.view_is) at c.requires in
     let same : AllZip IsSameFlow (map live c.args.flows.now) (map live is.items) = rw (before, is.shows) is.same in
-    rw (← c.self.view_is, sym is.shows, sym c.pending-most.ensures.value)
-    (IfOk-weaker c.show.result _ _ (λ s holds. holds c.self.inside.config is.items is.book order same)
+    rw (← c.self.view_is, sym is.shows, sym (rw c.config.ensures at c.pending-most.ensures.value))
+    (IfOk-weaker c.show.result _ _ (λ s holds. holds c.self.inside.channel is.items is.book order same)
     c.show.ensures.ack)
