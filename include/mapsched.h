@@ -177,6 +177,7 @@ struct mapsched_call {
   };
   uint8_t data_start, data_end;
   uint8_t has_slots; /* of a request: 0 where bytes are read, else slots are */
+  uint32_t peak;     /* of a polled or best effort flow: bits per second, or 0 */
 };
 /* checks/tables: call end */
 

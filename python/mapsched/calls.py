@@ -139,12 +139,13 @@ class Unsolicited:
 
 @dataclass(frozen=True)
 class Polled:
-    """A flow that is asked once in each interval. A rate of 0 is no ceiling."""
+    """A flow that is asked once in each interval. A rate of 0 is no ceiling, and neither is a peak of 0."""
 
     interval_us: int
     jitter_us: int
     rate: int
     burst: int
+    peak: int = 0
 
 
 @dataclass(frozen=True)
@@ -154,6 +155,7 @@ class BestEffort:
     priority: int
     rate: int
     burst: int
+    peak: int = 0
 
 
 Flow = Union[Unsolicited, Polled, BestEffort]

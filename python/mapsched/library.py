@@ -84,6 +84,7 @@ class CallNumbers(Structure):
         ("_grants", _GrantsOrRangingEnd),
         *((name, c_uint8) for name in ("data_start", "data_end")),
         ("has_slots", c_uint8),
+        ("peak", c_uint32),
     ]
 # checks/tables: call end
 
