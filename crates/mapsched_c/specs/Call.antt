@@ -23,8 +23,8 @@ use Rattle.mapsched_c.specs.declared.call.usage.TheConstants.{INITIAL, STATION, 
 -- the flow of these numbers, where there is such a kind
 abbrev pub flow_of : PlainCall → Option FlowSpec
 flow_of c = if c.flow == UNSOLICITED then Some (Unsolicited c.size c.interval_us c.jitter_us c.grants)
-    else if c.flow == POLLED then Some (Polled c.interval_us c.jitter_us c.rate c.burst)
-    else if c.flow == BEST_EFFORT then Some (BestEffort c.priority c.rate c.burst)
+    else if c.flow == POLLED then Some (Polled c.interval_us c.jitter_us c.rate c.burst c.peak)
+    else if c.flow == BEST_EFFORT then Some (BestEffort c.priority c.rate c.burst c.peak)
     else None
 
 -- what the opportunity of these numbers is used for, where there is such a usage
@@ -87,6 +87,7 @@ nothing_called = record {
   data_start = 0;
   data_end = 0;
   has_slots = 0;
+  peak = 0;
 }
 
 -- the numbers of a flow
@@ -104,12 +105,14 @@ plain_flow (Polled interval jitter rate burst peak) = record nothing_called {
   jitter_us = jitter;
   rate = rate;
   burst = burst;
+  peak = peak;
 }
 plain_flow (BestEffort priority rate burst peak) = record nothing_called {
   flow = BEST_EFFORT;
   priority = priority;
   rate = rate;
   burst = burst;
+  peak = peak;
 }
 
 -- the numbers of what a request asks for

@@ -121,6 +121,8 @@ pub struct PlainCall {
     pub data_end: u8,
     /// Whether a request asks for minislots: 0 where it asks for bytes.
     pub has_slots: u8,
+    /// The peak rate of a flow that asks, in bits per second.
+    pub peak: u32,
 }
 
 // A call of which every number is 0.
@@ -141,6 +143,7 @@ const NOTHING: PlainCall = PlainCall {
     data_start: 0,
     data_end: 0,
     has_slots: 0,
+    peak: 0,
 };
 
 impl PlainCall {
@@ -160,11 +163,13 @@ impl PlainCall {
                 jitter_us: self.jitter_us,
                 rate: self.rate,
                 burst: self.burst,
+                peak: self.peak,
             }),
             flow::BEST_EFFORT => Some(FlowSpec::BestEffort {
                 priority: self.priority,
                 rate: self.rate,
                 burst: self.burst,
+                peak: self.peak,
             }),
             _ => None,
         }
@@ -279,8 +284,8 @@ impl PlainCall {
     }
 
     // The numbers of a polled flow.
-    fn of_polled(interval_us: u32, jitter_us: u32, rate: u32, burst: u32) -> PlainCall
-        ensures { result ≡ plain_flow (FlowSpec.Polled interval_us jitter_us rate burst) }
+    fn of_polled(interval_us: u32, jitter_us: u32, rate: u32, burst: u32, peak: u32) -> PlainCall
+        ensures { result ≡ plain_flow (FlowSpec.Polled interval_us jitter_us rate burst peak) }
     {
         PlainCall {
             flow: flow::POLLED,
@@ -288,19 +293,21 @@ impl PlainCall {
             jitter_us,
             rate,
             burst,
+            peak,
             ..NOTHING
         }
     }
 
     // The numbers of a best effort flow.
-    fn of_best_effort(priority: u8, rate: u32, burst: u32) -> PlainCall
-        ensures { result ≡ plain_flow (FlowSpec.BestEffort priority rate burst) }
+    fn of_best_effort(priority: u8, rate: u32, burst: u32, peak: u32) -> PlainCall
+        ensures { result ≡ plain_flow (FlowSpec.BestEffort priority rate burst peak) }
     {
         PlainCall {
             flow: flow::BEST_EFFORT,
             priority,
             rate,
             burst,
+            peak,
             ..NOTHING
         }
     }
@@ -321,12 +328,14 @@ impl PlainCall {
                 jitter_us,
                 rate,
                 burst,
-            } => PlainCall::of_polled(interval_us, jitter_us, rate, burst),
+                peak,
+            } => PlainCall::of_polled(interval_us, jitter_us, rate, burst, peak),
             FlowSpec::BestEffort {
                 priority,
                 rate,
                 burst,
-            } => PlainCall::of_best_effort(priority, rate, burst),
+                peak,
+            } => PlainCall::of_best_effort(priority, rate, burst, peak),
         }
     }
 
