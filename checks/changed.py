@@ -19,6 +19,12 @@ CHANGES = {
     # ceilings
     "a ceiling that began anew lets more than with the grants before", "a ceiling goes on over a change",
     "a flow gets a ceiling by a change", "a flow loses its ceiling by a change",
+    # peaks
+    "a peak that began anew lets more than with the grants before", "a peak goes on over a change",
+    "a flow gets a peak by a change", "a flow loses its peak by a change", "a change of the peak alone",
+    "a peak begins anew while its flow's rate goes on", "a rate begins anew while its flow's peak goes on",
+    "a grant is as long as the peak lets it be", "a grant is as long as the rate lets it be, below its peak",
+    "a grant is as long as a peak below the rate lets it be",
     # requests that replace others
     "a request replaces others with fewer bytes", "a request replaces others with more bytes",
     "a request replaces others with none", "a request of nothing, where nothing is outstanding",
@@ -45,17 +51,17 @@ CHANGES = {
     "a wake of no flow is refused",
 }
 
-PLACING, CEILING = ("interval_us", "jitter_us", "size", "grants"), ("rate", "burst")
-GRANTS = {"grants": 1}
+PLACING, CEILING, PEAK_BURST = ("interval_us", "jitter_us", "size", "grants"), ("rate", "burst"), 1522
+MISSING = {"grants": 1, "peak": 0}
 
 
 class Life:
     """A life of a flow: its parameters, its sums, its requests as (bytes asked with it, whether it replaced others),
-    its data grants of each period of its ceiling as (start, bytes), its placement, and whether it rests. Beside that
-    what was of late: its priority was raised, it rested, a change was refused for its place."""
+    its data grants of each period of its rate ceiling and of its peak as (start, bytes), its placement, and whether it
+    rests. Beside that what was of late: its priority was raised, it rested, a change was refused for its place."""
 
     def __init__(self, flow):
-        self.flow, self.asked, self.granted, self.requests, self.periods = flow, 0, 0, [], [[]]
+        self.flow, self.asked, self.granted, self.requests, self.periods, self.peaks = flow, 0, 0, [], [[]], [[]]
         self.placed, self.rests = {}, False
         self.is_raised = self.has_rested = self.stayed = False
 
@@ -65,8 +71,11 @@ class Life:
     def ceiling(self):
         return [self.flow.get(it) for it in CEILING]
 
+    def peak(self):
+        return self.flow.get("peak", 0) if self.kind() != "unsolicited" else 0
+
     def placing(self):
-        return [{**GRANTS, **self.flow}.get(it) for it in PLACING]
+        return [{**MISSING, **self.flow}.get(it) for it in PLACING]
 
     def each(self):
         return self.flow.get("grants", 1) if self.kind() == "unsolicited" else 1
@@ -161,10 +170,11 @@ class Changed:
     def read_change(self, call, reply):
         life, flow = self.lives[call["sid"]], call["flow"]
         self.breaks("a change of another kind", flow["kind"] != life.kind())
-        before, ceiling, placing, rested = {**GRANTS, **life.flow}, life.ceiling(), life.placing(), life.rests
-        others = {it for it in before if before[it] != {**GRANTS, **flow}.get(it)}
+        before, ceiling, placing, rested = {**MISSING, **life.flow}, life.ceiling(), life.placing(), life.rests
+        peak, others = life.peak(), {it for it in before if before[it] != {**MISSING, **flow}.get(it)}
         self.says("a change of nothing", not others)
         self.says("a change of the priority alone", others == {"priority"})
+        self.says("a change of the peak alone", others == {"peak"} and life.kind() != "unsolicited")
         self.says("a change of a flow with bytes outstanding", life.outstanding() > 0)
         there, placed = self.minislots(life), life.placed
         life.is_raised = flow.get("priority", 0) > before.get("priority", 0)
@@ -174,7 +184,9 @@ class Changed:
         if "starts" in reply:
             self.stand(life, reply)
             self.moves(life, reply, life.placing() == placing, placed, there, rested)
-        self.begins(life, ceiling)
+        is_anew = self.begins(life, ceiling), self.begins_peak(life, peak)
+        self.says("a peak begins anew while its flow's rate goes on", is_anew == (False, True) and ceiling[0])
+        self.says("a rate begins anew while its flow's peak goes on", is_anew == (True, False) and peak)
 
     def moves(self, life, reply, is_kept, placed, there, rested):
         here = self.minislots(life)
@@ -195,12 +207,24 @@ class Changed:
         self.breaks("more grants in an interval than may be", total > self.most)
 
     def begins(self, life, ceiling):
-        if life.ceiling() != ceiling:
-            life.periods.append([])
-            self.says("a flow gets a ceiling by a change", ceiling[0] == 0 and life.ceiling()[0])
-            self.says("a flow loses its ceiling by a change", ceiling[0] and life.ceiling()[0] == 0)
-        else:
+        """Whether the rate ceiling of a flow begins anew, which was this."""
+        if life.ceiling() == ceiling:
             self.says("a ceiling goes on over a change", ceiling[0] and life.periods[-1])
+            return False
+        life.periods.append([])
+        self.says("a flow gets a ceiling by a change", ceiling[0] == 0 and life.ceiling()[0])
+        self.says("a flow loses its ceiling by a change", ceiling[0] and life.ceiling()[0] == 0)
+        return True
+
+    def begins_peak(self, life, peak):
+        """The same of its peak."""
+        if life.peak() == peak:
+            self.says("a peak goes on over a change", peak and life.peaks[-1])
+            return False
+        life.peaks.append([])
+        self.says("a flow gets a peak by a change", peak == 0)
+        self.says("a flow loses its peak by a change", life.peak() == 0)
+        return True
 
     def refused_change(self, call, reply):
         number, life = reply["number"], self.lives.get(call["sid"])
@@ -320,18 +344,36 @@ class Changed:
         self.next = start + self.frame
 
     def grant(self, life, start, count):
-        """A data grant keeps the ceiling of its period over each window that ends in it."""
+        """A data grant keeps both ceilings of their periods over each window that ends in it."""
         self.breaks("a data grant of nothing", count > life.outstanding())
-        rate, burst = life.ceiling()
-        is_above = not keeps(self.config["ticks"], rate, burst, [*life.periods[-1], (start, count)])
-        self.breaks("a data grant above the ceiling", is_above)
-        whole = [*(it for period in life.periods for it in period), (start, count)]
-        is_new = len(life.periods) > 1 and not keeps(self.config["ticks"], rate, burst, whole)
+        rate, peak = life.ceiling(), (life.peak(), PEAK_BURST)
+        is_new = self.is_kept("ceiling", *rate, life.periods, start, count)
         self.says("a ceiling that began anew lets more than with the grants before", is_new)
+        is_new = self.is_kept("peak", *peak, life.peaks, start, count)
+        self.says("a peak that began anew lets more than with the grants before", is_new)
+        self.binds(life, rate, peak, start, count)
         life.periods[-1].append((start, count))
+        life.peaks[-1].append((start, count))
         was, life.granted = life.granted, life.granted + count
         self.says("a request that replaced others is served whole",
                   any(is_new and was < asked <= life.granted for asked, is_new in life.requests))
+
+    def is_kept(self, name, rate, burst, periods, start, count):
+        """A data grant keeps a ceiling: whether it would not with the grants before its period."""
+        ticks, last = self.config["ticks"], (start, count)
+        self.breaks(f"a data grant above the {name}", not keeps(ticks, rate, burst, [*periods[-1], last]))
+        whole = [*(it for period in periods for it in period), last]
+        return len(periods) > 1 and not keeps(ticks, rate, burst, whole)
+
+    def binds(self, life, rate, peak, start, count):
+        """Which of both ceilings a grant of one byte more would not keep."""
+        ticks, more = self.config["ticks"], (start, count + 1)
+        is_held = count < life.outstanding() and not keeps(ticks, *peak, [*life.peaks[-1], more])
+        is_by_rate = count < life.outstanding() and not keeps(ticks, *rate, [*life.periods[-1], more])
+        self.says("a grant is as long as the peak lets it be", is_held and not is_by_rate)
+        self.says("a grant is as long as a peak below the rate lets it be", is_held and 0 < peak[0] < rate[0])
+        is_below = is_by_rate and not is_held and rate[0] < peak[0]
+        self.says("a grant is as long as the rate lets it be, below its peak", is_below)
 
     def leaves_out(self, place):
         """A MAP that settles has nothing periodic."""

@@ -132,7 +132,14 @@ class Drawing:
     def ceiling(self):
         rate = self.draw.choice([0, 0, 64000, 300000, 5000000])
         burst = self.draw.choice([self.config["quantum"], 1522, 5000, 100000])
-        return {"rate": rate, "burst": burst if self.draw.random() < 0.95 else 63}
+        return {"rate": rate, "burst": burst if self.draw.random() < 0.95 else 63, **self.peak(rate)}
+
+    def peak(self, rate):
+        """A peak in one of three: none at all, one that brings next to nothing, or one below the rate, at it or above
+        it."""
+        if self.draw.random() < 0.67:
+            return {}
+        return {"peak": self.draw.choice([0, 0, 1, 8000, 64000, 64001, rate // 2, rate, 3 * rate, 5000000, 2**32 - 1])}
 
     def flow(self):
         return self.flow_of(self.draw.choice(self.kinds))
@@ -144,6 +151,8 @@ class Drawing:
         if kind == "polled":
             return {"kind": kind, **self.times(), **self.ceiling()}
         flow = {"kind": kind, "size": self.draw.choice(self.sizes), **self.times()}
+        if self.draw.random() < 0.05:
+            flow["peak"] = 64000
         return flow if self.draw.random() < 0.4 else {**flow, "grants": self.draw.choice([0, 1, 1, 1, 2, 2, 3, 8, 9])}
 
     def sid(self, is_live):
@@ -543,9 +552,12 @@ def drawing_of(random_numbers):
 
 
 def as_written(entries):
-    """Entries as a history has them: grants are always written."""
+    """Entries as a history has them: grants are always written, and a peak where it is above 0 and somebody reads it.
+    """
     for entry in entries:
-        flow = entry["call"].get("flow", {})
+        flow = {**entry["call"].get("flow", {})}
         if flow.get("kind") == "unsolicited":
-            entry = {**entry, "call": {**entry["call"], "flow": {"grants": 1, **flow}}}
-        yield entry
+            flow = {"grants": 1, **flow, "peak": 0}
+        if flow.get("peak") == 0:
+            del flow["peak"]
+        yield {**entry, "call": {**entry["call"], "flow": flow}} if flow else entry

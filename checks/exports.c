@@ -12,7 +12,7 @@
 /* A program that was built with an older header has a call of this size, with these members in these places. */
 #define STANDS_AT(place, member) \
   _Static_assert(offsetof(struct mapsched_call, member) == (place), #member " is at another place")
-_Static_assert(sizeof(struct mapsched_call) == 48, "a call has another size");
+_Static_assert(sizeof(struct mapsched_call) == 56, "a call has another size");
 STANDS_AT(0, kind);
 STANDS_AT(4, flow);
 STANDS_AT(8, size);
@@ -29,6 +29,7 @@ STANDS_AT(44, grants);
 STANDS_AT(45, data_start);
 STANDS_AT(46, data_end);
 STANDS_AT(47, has_slots);
+STANDS_AT(48, peak);
 
 /* All that the caller has, and what it can read of a scheduler. */
 static struct {
@@ -53,7 +54,8 @@ static const struct mapsched_call voice = {.kind = MAPSCHED_ADMIT,
                                            .interval_us = 10000,
                                            .jitter_us = 800,
                                            .grants = 2};
-static const struct mapsched_call data = {.kind = MAPSCHED_ADMIT, .flow = MAPSCHED_BEST_EFFORT, .sid = 6};
+static const struct mapsched_call data = {
+  .kind = MAPSCHED_ADMIT, .flow = MAPSCHED_BEST_EFFORT, .sid = 6, .peak = 64000};
 static const struct mapsched_call change = {.kind = MAPSCHED_CHANGE,
                                             .flow = MAPSCHED_UNSOLICITED,
                                             .sid = 5,

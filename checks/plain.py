@@ -21,31 +21,38 @@ MODEMS, PRIORITIES = range(1, 8192), range(15873, 16128)
 SIDS = {name: [MODEMS] for name in ("initial_to", "station", "data")}
 SIDS |= {"request": [MODEMS, PRIORITIES, [ALL_MODEMS]], "initial": [], "quiet": []}
 HEADING = ["ucd_count", "ranging_start", "ranging_end", "data_start", "data_end"]
-# The parameters that a flow's place in the cycle goes by, and those of its ceiling.
-PLACING, CEILING = ("interval_us", "jitter_us", "size", "grants"), ("rate", "burst")
+# The parameters that a flow's place in the cycle goes by, those of its rate ceiling, and the bytes of a peak's burst.
+PLACING, CEILING, PEAK_BURST = ("interval_us", "jitter_us", "size", "grants"), ("rate", "burst"), 1522
 
 
 class Flow:
     """A live flow: its parameters, what it asked, its data grants as (start, bytes), how many of them were before the
-    present period of its ceiling, its place in the cycle, and whether it rests. Its requests that wait are in two
-    batches, each as (minislot at which it was heard, bytes asked with it)."""
+    present periods of its rate ceiling and its peak ceiling, its place in the cycle, and whether it rests. Its requests
+    that wait are in two batches, each as (minislot at which it was heard, bytes asked with it)."""
 
     def __init__(self, spec):
         self.spec, self.kind, self.asked, self.grants = spec, spec["kind"], 0, []
         self.first, self.second = [], []
-        self.phase = self.offset = self.interval = self.before = 0
+        self.phase = self.offset = self.interval = self.before = self.before_peak = 0
         self.starts, self.rests = {}, False
 
     def changed(self, spec):
-        """The flow with other parameters: it is awake, its ceiling begins anew where a number of it is another, and it
-        has no place where one of those is another that this goes by."""
+        """The flow with other parameters: it is awake, each of its ceilings begins anew where a number of it is another,
+        and it has no place where one of those is another that this goes by."""
         other = copy.copy(self)
         other.spec, other.rests = spec, False
         if any(spec.get(it) != self.spec.get(it) for it in CEILING):
             other.before = len(self.grants)
+        if spec.get("peak", 0) != self.spec.get("peak", 0):
+            other.before_peak = len(self.grants)
         if any(spec.get(it, 1) != self.spec.get(it, 1) for it in PLACING):
             other.starts = {}
         return other
+
+    def ceilings(self):
+        """Its ceilings: of each the rate, the burst, and the grants of its present period."""
+        yield self.spec["rate"], self.spec["burst"], self.grants[self.before :]
+        yield self.spec.get("peak", 0), PEAK_BURST, self.grants[self.before_peak :]
 
     def granted(self):
         return sum(count for _, count in self.grants)
@@ -382,19 +389,20 @@ class Scheduler(Places):
     def long_usage(self):
         return 10 if self.config["phy"] == 1 else 6
 
-    def keeps_ceiling(self, flow, start, count):
-        """Whether the flow's grants of its ceiling's present period, with this one behind them, keep rate and burst
-        over every window that ends in it."""
-        rate, burst = flow.spec["rate"], flow.spec["burst"]
+    def keeps(self, rate, burst, grants, start, count):
+        """Whether these grants, with this one behind them, keep rate and burst over every window that ends in it."""
         total = 0
-        for first, part in reversed([*flow.grants[flow.before :], (start, count)]):
+        for first, part in reversed([*grants, (start, count)]):
             total += part
             if rate and 1280000 * total > (start - first) * self.config["ticks"] * rate + 1280000 * burst:
                 return False
         return True
 
+    def keeps_ceilings(self, flow, start, count):
+        return all(self.keeps(*ceiling, start, count) for ceiling in flow.ceilings())
+
     def may_have(self, flow, start, count, room):
-        return self.slots_for(count) <= room and self.keeps_ceiling(flow, start, count)
+        return self.slots_for(count) <= room and self.keeps_ceilings(flow, start, count)
 
     def next_flow(self, start, room):
         """The flow that is served at a minislot, with so much room, or none."""

@@ -232,6 +232,55 @@ class TheBurstAloneGoesOn(Flow):
         return other
 
 
+class ThePeakGoesOn(Flow):
+    """A changed peak has the level of the one before."""
+
+    def changed(self, spec):
+        other = super().changed(spec)
+        other.before_peak = self.before_peak
+        return other
+
+
+class AnyChangeFillsThePeak(Flow):
+    def changed(self, spec):
+        other = super().changed(spec)
+        other.before_peak = len(self.grants)
+        return other
+
+
+class ThePeakFillsTheCeiling(Flow):
+    """The rate ceiling begins anew with the peak."""
+
+    def changed(self, spec):
+        other = super().changed(spec)
+        other.before = max(other.before, other.before_peak)
+        return other
+
+
+class TheCeilingFillsThePeak(Flow):
+    """The peak begins anew with the rate ceiling."""
+
+    def changed(self, spec):
+        other = super().changed(spec)
+        other.before_peak = max(other.before, other.before_peak)
+        return other
+
+
+class KeepsTheOldPeak(Flow):
+    """A change gives no other peak."""
+
+    def changed(self, spec):
+        old = {name: it for name, it in self.spec.items() if name == "peak"}
+        return super().changed({**{name: it for name, it in spec.items() if name != "peak"}, **old})
+
+
+class KeepsAPeakThatIsLeftOut(Flow):
+    """A change that names no peak leaves it."""
+
+    def changed(self, spec):
+        return super().changed({**{name: it for name, it in self.spec.items() if name == "peak"}, **spec})
+
+
 class NothingIsChanged(Flow):
     """A flow that keeps its place keeps its parameters."""
 
