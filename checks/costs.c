@@ -232,5 +232,8 @@ int main(void) {
   time_each();
   changes_in_hundred = 20;
   print_calls("calls with changes");
+  changes_in_hundred = 0;
+  peaks_in_hundred = 80;
+  print_calls("calls with peaks");
   return 0;
 }

@@ -23,6 +23,10 @@ static uint64_t below(uint64_t bound) {
   return state % bound;
 }
 
+/* How many flows of a hundred that ask have a peak: none where nobody says so, and then what is drawn is as without
+ * peaks. */
+static uint64_t peaks_in_hundred;
+
 /* An admission of a flow of any kind. */
 static struct mapsched_call admission(uint16_t sid) {
   struct mapsched_call call = {.kind = MAPSCHED_ADMIT, .sid = sid};
@@ -41,6 +45,7 @@ static struct mapsched_call admission(uint16_t sid) {
     if (kind > 1) call.priority = (uint8_t)below(8);
     call.rate = rate;
     call.burst = 100000;
+    if (peaks_in_hundred && below(100) < peaks_in_hundred) call.peak = 500000 * (uint32_t)below(17);
   }
   return call;
 }

@@ -166,12 +166,23 @@ static uint16_t drawn_sid(int is_live) {
   return drawing.sid[at];
 }
 
-/* Rate and burst of a flow that asks. */
+/* A peak in one flow of three: one that brings next to nothing, or one below its rate, at it or above it. The other
+ * numbers of a script are drawn as without peaks. */
+static void draw_peak(struct mapsched_call *call) {
+  uint64_t kept = state;
+  uint32_t peaks[] = {0, 1, 8000, 64000, 64001, call->rate / 2, call->rate, 3 * call->rate, 5000000, UINT32_MAX};
+  state ^= UINT64_C(0x369dea0f31a53f85);
+  if (is_one_in(3)) call->peak = ONE_OF(peaks);
+  state = kept;
+}
+
+/* Rate, burst and peak of a flow that asks. */
 static void draw_ceiling(struct mapsched_call *call) {
   static const uint32_t rates[] = {0, 0, 64000, 300000, 5000000};
   uint32_t bursts[] = {drawing.config.quantum, 1522, 5000, 100000};
   call->rate = ONE_OF(rates);
   call->burst = is_one_in(20) ? 63 : ONE_OF(bursts);
+  draw_peak(call);
 }
 
 /* An interval of whole frames that part the cycle, or mostly so, and a jitter. */
@@ -253,12 +264,14 @@ static struct mapsched_call given_to(uint16_t sid) {
   return (struct mapsched_call){.kind = 0};
 }
 
-/* A change, seldom to another kind of flow; one in two leaves what places a flow, and seldom all of it. */
+/* A change, seldom to another kind of flow; one in two leaves what places a flow, and with an odd priority its peak, and
+ * seldom all of it. */
 static struct mapsched_call drawn_change(void) {
   uint16_t sid = drawn_sid(1);
   struct mapsched_call given = given_to(sid), call = drawn_admission();
   while (call.flow != given.flow && !is_one_in(12)) call = drawn_admission();
   if (call.flow == given.flow && is_one_in(2)) {
+    if (call.priority % 2) call.peak = given.peak;
     call.size = given.size;
     call.interval_us = given.interval_us;
     call.jitter_us = given.jitter_us;
