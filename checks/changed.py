@@ -72,7 +72,7 @@ class Life:
         return [self.flow.get(it) for it in CEILING]
 
     def peak(self):
-        return self.flow.get("peak", 0) if self.kind() != "unsolicited" else 0
+        return self.flow.get("peak", 0)
 
     def placing(self):
         return [{**MISSING, **self.flow}.get(it) for it in PLACING]
@@ -174,7 +174,7 @@ class Changed:
         peak, others = life.peak(), {it for it in before if before[it] != {**MISSING, **flow}.get(it)}
         self.says("a change of nothing", not others)
         self.says("a change of the priority alone", others == {"priority"})
-        self.says("a change of the peak alone", others == {"peak"} and life.kind() != "unsolicited")
+        self.says("a change of the peak alone", others == {"peak"})
         self.says("a change of a flow with bytes outstanding", life.outstanding() > 0)
         there, placed = self.minislots(life), life.placed
         life.is_raised = flow.get("priority", 0) > before.get("priority", 0)

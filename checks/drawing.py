@@ -151,8 +151,6 @@ class Drawing:
         if kind == "polled":
             return {"kind": kind, **self.times(), **self.ceiling()}
         flow = {"kind": kind, "size": self.draw.choice(self.sizes), **self.times()}
-        if self.draw.random() < 0.05:
-            flow["peak"] = 64000
         return flow if self.draw.random() < 0.4 else {**flow, "grants": self.draw.choice([0, 1, 1, 1, 2, 2, 3, 8, 9])}
 
     def sid(self, is_live):
@@ -552,12 +550,11 @@ def drawing_of(random_numbers):
 
 
 def as_written(entries):
-    """Entries as a history has them: grants are always written, and a peak where it is above 0 and somebody reads it.
-    """
+    """Entries as a history has them: grants are always written, and a peak where it is above 0."""
     for entry in entries:
         flow = {**entry["call"].get("flow", {})}
         if flow.get("kind") == "unsolicited":
-            flow = {"grants": 1, **flow, "peak": 0}
+            flow = {"grants": 1, **flow}
         if flow.get("peak") == 0:
             del flow["peak"]
         yield {**entry, "call": {**entry["call"], "flow": flow}} if flow else entry

@@ -264,8 +264,8 @@ static struct mapsched_call given_to(uint16_t sid) {
   return (struct mapsched_call){.kind = 0};
 }
 
-/* A change, seldom to another kind of flow; one in two leaves what places a flow, and with an odd priority its peak, and
- * seldom all of it. */
+/* A change, seldom to another kind of flow; one in two leaves what places a flow, and its peak where the priority is
+ * odd, and seldom all of it. */
 static struct mapsched_call drawn_change(void) {
   uint16_t sid = drawn_sid(1);
   struct mapsched_call given = given_to(sid), call = drawn_admission();

@@ -7,6 +7,7 @@ CALLS = ("admit", "ask", "build", "header", "heard", "remove", "reserve", "skip"
 MORE_CALLS = ("change", "replace", "rest", "wake")
 USES = ("request", "poll", "unsolicited", "opportunity", "data", "idle")
 PART = 1280000  # So many parts of a byte: a ceiling of 1 bit per second gives one in each tick.
+PEAK_BURST = 1522  # The burst of a peak, in bytes.
 
 
 def rank_of(flow):
@@ -27,6 +28,30 @@ def summary(delays):
     return {"greatest": ordered[-1], "least": ordered[0], "middle": middle, "p99": p99}
 
 
+class Bucket:
+    """What a ceiling allows, full at first: its rate fills it again, and it holds its burst."""
+
+    def __init__(self, rate, burst, now):
+        self.rate, self.burst, self.parts, self.at = rate, burst, burst * PART, now
+
+    def allows(self, ticks, start):
+        """How many bytes it allows at a minislot of so many ticks."""
+        more = (start - self.at) * ticks * self.rate
+        self.parts, self.at = min(self.parts + more, self.burst * PART), start
+        return self.parts // PART
+
+    def take(self, count):
+        self.parts -= count * PART
+
+
+def rate_of(flow, now):
+    return Bucket(flow.get("rate", 0), flow.get("burst", 0), now)
+
+
+def peak_of(flow, now):
+    return Bucket(flow.get("peak", 0), PEAK_BURST, now)
+
+
 class Life:
     """A flow from its admission to its removal."""
 
@@ -35,7 +60,7 @@ class Life:
         self.first, self.last = first, None
         self.asked = self.granted = self.asks = self.replaces = self.replaced = 0
         self.unserved, self.delays = deque(), []
-        self.parts, self.parts_at = flow.get("burst", 0) * PART, first
+        self.rate, self.peak = rate_of(flow, first), peak_of(flow, first)
         self.voice_at, self.late = None, 0
         self.rests, self.silent = False, 0
 
@@ -60,9 +85,11 @@ class Life:
             self.ask(count, heard)
 
     def change(self, flow, now):
-        """Other parameters. A ceiling of which a number is another begins full."""
+        """Other parameters. A ceiling of which a number is another begins full, the other goes on."""
         if any(flow.get(it) != self.flow.get(it) for it in ("rate", "burst")):
-            self.parts, self.parts_at = flow.get("burst", 0) * PART, now
+            self.rate = rate_of(flow, now)
+        if flow.get("peak", 0) != self.flow.get("peak", 0):
+            self.peak = peak_of(flow, now)
         self.flow = flow
 
     def hears(self, speaks):
@@ -84,22 +111,19 @@ class Life:
         self.voice_at = start
 
     def grant(self, start, slots):
-        """The bytes of a data grant: what it carries, as far as they were asked for and the ceiling lets them."""
+        """The bytes of a data grant: what it carries, as far as they were asked for and the ceilings let them."""
         room = (slots - self.config["overhead"]) * self.config["bytes_per_slot"]
-        count = min(self.outstanding(), room, self.config["grant_cap"], self.ceiling(start))
-        self.parts -= count * PART
+        count = min(self.outstanding(), room, self.config["grant_cap"], *self.ceilings(start))
+        self.rate.take(count)
+        self.peak.take(count)
         self.granted += count
         while self.unserved and self.unserved[0][0] <= self.granted:
             self.delays.append(start + slots - self.unserved.popleft()[1])
         return count
 
-    def ceiling(self, start):
-        """How many bytes the ceiling allows at a minislot: `rate` fills it again, and it holds `burst`."""
-        if not self.flow["rate"]:
-            return self.outstanding()
-        more = (start - self.parts_at) * self.config["ticks"] * self.flow["rate"]
-        self.parts, self.parts_at = min(self.parts + more, self.flow["burst"] * PART), start
-        return self.parts // PART
+    def ceilings(self, start):
+        """How many bytes each ceiling allows at a minislot; a rate or a peak of 0 is none."""
+        return [it.allows(self.config["ticks"], start) for it in (self.rate, self.peak) if it.rate]
 
     def waited(self, now, least):
         """How many requests were served or wait now, and how many of them took as long as this."""

@@ -240,6 +240,23 @@ class Module(unittest.TestCase):
         for told in ({"bytes": 100}, {"slots": 9}):
             self.assertRaises(TypeError, Ask, 0, 17, **told)
 
+    def test_a_flow_has_a_peak_where_it_is_told_one(self):
+        flow = BestEffort(priority=3, rate=0, burst=0)
+        self.assertEqual(flow, BestEffort(3, 0, 0, 0))
+        told = {"kind": "best_effort", "priority": 3, "rate": 0, "burst": 0, "peak": 1}
+        admission = mapsched.call_of({"call": "admit", "sid": 17, "flow": told})
+        self.assertEqual(admission, Admit(17, dataclasses.replace(flow, peak=1)))
+        with Scheduler(CONFIG) as scheduler:
+            for call in (Build(760), admission, Ask(0, 17, 3000, 801)):
+                scheduler.call(call)
+            for now in (800, 840, 880, 920):
+                self.assertIsInstance(scheduler.call(Build(now)), Built)
+            self.assertEqual(scheduler.call(Status(17)), FlowBytes(3000, 1522, 1478))
+            self.assertEqual(scheduler.call(Change(17, flow)), Changed())
+            self.assertEqual([scheduler[1].call, scheduler[8].call], [admission, Change(17, flow)])
+            self.assertRaises(ValueError, scheduler.call, Admit(18, dataclasses.replace(flow, peak=2**32)))
+        self.assertRaises(TypeError, Unsolicited, size=1, interval_us=1000, jitter_us=0, peak=1)
+
     def test_a_request_supersedes_those_before(self):
         requests = [Replace(0, 17, 200, 841), Replace(0, 17, heard=841, slots=9), Replace(0, 17, 0, 841)]
         with Scheduler(CONFIG) as scheduler:

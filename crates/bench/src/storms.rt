@@ -68,6 +68,7 @@ pub(crate) fn call_of(worker: usize, number: usize) -> Call {
         priority: 3,
         rate: 4_000_000,
         burst: 100_000,
+        peak: 0,
     };
     let ask = Call::Ask {
         receiver: 0,

@@ -33,6 +33,7 @@ const CALLS: [Call; 18] = [
             priority: 3,
             rate: 0,
             burst: 0,
+            peak: 0,
         },
     ),
     Call::Ask {
@@ -64,6 +65,7 @@ const CALLS: [Call; 18] = [
             jitter_us: 0,
             rate: 0,
             burst: 0,
+            peak: 0,
         },
     ),
     Call::Reserve {
@@ -81,6 +83,7 @@ const CALLS: [Call; 18] = [
             priority: 4,
             rate: 0,
             burst: 0,
+            peak: 0,
         },
     ),
     Call::Replace {

@@ -35,12 +35,13 @@ impl Draws {
         now.saturating_add(u64::from(self.below(30)))
     }
 
-    /// Parameters of some flow: one in eight has one or two unsolicited grants in an interval, and some have no
-    /// ceiling.
+    /// Parameters of some flow: one in eight has one or two unsolicited grants in an interval, some have no ceiling, and
+    /// half of them have a peak, below the rate or above it.
     pub fn spec(&mut self) -> FlowSpec {
         let draw = self.below(4) as usize;
         let rate = [0, 64_000, 300_000, 2_000_000][draw];
         let burst = [600, 1_600, 9_000][self.below(3) as usize];
+        let peak = [0, 0, 0, 1, 100_000, 4_000_000][self.below(6) as usize];
         match self.below(8) {
             0 => FlowSpec::Unsolicited {
                 size: 100,
@@ -53,11 +54,13 @@ impl Draws {
                 jitter_us: 0,
                 rate,
                 burst,
+                peak,
             },
             priority => FlowSpec::BestEffort {
                 priority: priority as u8,
                 rate,
                 burst,
+                peak,
             },
         }
     }

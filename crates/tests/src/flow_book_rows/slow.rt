@@ -17,16 +17,25 @@ pub struct SlowFlow {
     pub grants: Vec<Grant>,
 }
 
-// The rank, the rate and the burst of a flow.
-fn limits_of(spec: &FlowSpec) -> (u8, u32, u32) {
+// The bytes that a flow may be granted at once where it has a peak.
+const PEAK_BURST: u32 = 1522;
+
+// The rank, the rate, the burst and the peak of a flow.
+fn limits_of(spec: &FlowSpec) -> (u8, u32, u32, u32) {
     match *spec {
-        FlowSpec::Unsolicited { .. } => (0, 0, 0),
-        FlowSpec::Polled { rate, burst, .. } => (8, rate, burst),
+        FlowSpec::Unsolicited { .. } => (0, 0, 0, 0),
+        FlowSpec::Polled {
+            rate,
+            burst,
+            peak,
+            ..
+        } => (8, rate, burst, peak),
         FlowSpec::BestEffort {
             priority,
             rate,
             burst,
-        } => (priority, rate, burst),
+            peak,
+        } => (priority, rate, burst, peak),
     }
 }
 
@@ -40,7 +49,7 @@ impl SlowFlow {
     pub fn most(&self, config: &Checked, start: u64, room: u32) -> u32 {
         let asked = self.outstanding().min(u64::from(config.grant_cap()));
         let limit = asked.min(config.bytes_in(room)) as u32;
-        self.within_ceiling(config, start, limit)
+        self.within_ceilings(config, start, limit)
     }
 
     // Where the last data grant starts.
@@ -53,7 +62,10 @@ impl SlowFlow {
 
     // Whether this flow is served before the other.
     fn is_before(&self, other: &SlowFlow) -> bool {
-        let ((rank, _, _), (other_rank, _, _)) = (limits_of(&self.spec), limits_of(&other.spec));
+        let ((rank, _, _, _), (other_rank, _, _, _)) = (
+            limits_of(&self.spec),
+            limits_of(&other.spec),
+        );
         let (last, other_last) = (self.last_start(), other.last_start());
         rank > other_rank
             || rank == other_rank
@@ -69,13 +81,20 @@ impl SlowFlow {
         if wanted == 0 || config.slots_for(wanted) > u64::from(room) {
             return false;
         }
-        self.within_ceiling(config, start, wanted) == wanted
+        self.within_ceilings(config, start, wanted) == wanted
     }
 
-    // The most bytes, up to the limit, that a data grant at this minislot may have under the rate
-    // ceiling: each window of grants that ends in it is tested.
-    fn within_ceiling(&self, config: &Checked, start: u64, limit: u32) -> u32 {
-        let (_, rate, burst) = limits_of(&self.spec);
+    // The most bytes, up to the limit, that a data grant at this minislot may have under both ceilings.
+    fn within_ceilings(&self, config: &Checked, start: u64, limit: u32) -> u32 {
+        let (_, rate, burst, peak) = limits_of(&self.spec);
+        let most = self.within_ceiling(config, start, limit, (rate, burst));
+        self.within_ceiling(config, start, most, (peak, PEAK_BURST))
+    }
+
+    // The most bytes, up to the limit, that it may have under a rate and a burst: each window of grants that ends in it
+    // is tested.
+    fn within_ceiling(&self, config: &Checked, start: u64, limit: u32, of: (u32, u32)) -> u32 {
+        let (rate, burst) = of;
         if rate == 0 {
             return limit;
         }

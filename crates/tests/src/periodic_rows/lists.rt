@@ -36,6 +36,7 @@ fn spec_of(draws: &mut Draws, frame: u32, bytes: u32) -> FlowSpec {
             jitter_us,
             rate: 0,
             burst: 0,
+            peak: 0,
         };
     }
     FlowSpec::Unsolicited {

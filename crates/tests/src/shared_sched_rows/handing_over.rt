@@ -22,6 +22,7 @@ const DATA: FlowSpec = FlowSpec::BestEffort {
     priority: 3,
     rate: 0,
     burst: 0,
+    peak: 0,
 };
 
 const ASK: Call = Call::Ask {

@@ -25,6 +25,7 @@ const DATA: FlowSpec = FlowSpec::BestEffort {
     priority: 3,
     rate: 0,
     burst: 0,
+    peak: 0,
 };
 
 // The call of a builder with this number: every other one is a build, and between them are 50 flows that ask.
