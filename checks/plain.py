@@ -37,8 +37,8 @@ class Flow:
         self.starts, self.rests = {}, False
 
     def changed(self, spec):
-        """The flow with other parameters: it is awake, a ceiling begins anew where a number of it is another, and it has
-        no place where one of those is another that this goes by."""
+        """The flow with other parameters: it is awake, a ceiling begins anew where a number of it is another, and it
+        has no place where one of those is another that this goes by."""
         other = copy.copy(self)
         other.spec, other.rests = spec, False
         if any(spec.get(it) != self.spec.get(it) for it in CEILING):

@@ -35,8 +35,8 @@ impl Draws {
         now.saturating_add(u64::from(self.below(30)))
     }
 
-    /// Parameters of some flow: one in eight has one or two unsolicited grants in an interval, some have no ceiling, and
-    /// half of them have a peak, below the rate or above it.
+    /// Parameters of some flow: one in eight has one or two unsolicited grants in an interval, some have no ceiling,
+    /// and half of them have a peak, below the rate or above it.
     pub fn spec(&mut self) -> FlowSpec {
         let draw = self.below(4) as usize;
         let rate = [0, 64_000, 300_000, 2_000_000][draw];
