@@ -272,11 +272,13 @@ const RATE: Member = ("rate", U32, MUST);
 
 const BURST: Member = ("burst", U32, MUST);
 
+const PEAK: Member = ("peak", U32, Missing::Number(0));
+
 /// The forms of a flow.
 pub static FLOWS: [Form; 3] = [
     ("unsolicited", &[KIND, SIZE, INTERVAL, JITTER, GRANTS]),
-    ("polled", &[KIND, INTERVAL, JITTER, RATE, BURST]),
-    ("best_effort", &[KIND, PRIORITY, RATE, BURST]),
+    ("polled", &[KIND, INTERVAL, JITTER, RATE, BURST, PEAK]),
+    ("best_effort", &[KIND, PRIORITY, RATE, BURST, PEAK]),
 ];
 
 /// The one form of an entry.
