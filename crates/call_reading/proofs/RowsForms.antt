@@ -4,11 +4,11 @@ use Rattle.serde_json.specs.Data.{Data, null, object, number, unsigned, string, 
 use Rattle.sched_calls.specs.declared.opportunity.Usage.TheVariants.{Initial, InitialTo, Station}
 use Rattle.sched_calls.specs.declared.opportunity.Usage.TheVariants.{Request, Quiet, DataTo}
 use Rattle.sched_calls.specs.declared.amount.Amount.TheVariants.{Bytes, Slots}
-use Rattle.sched_calls.specs.declared.spec.FlowSpec.TheVariants.{BestEffort}
+use Rattle.sched_calls.specs.declared.spec.FlowSpec.TheVariants.{Unsolicited, Polled, BestEffort}
 use Rattle.sched_calls.specs.declared.call.Call.TheVariants.{Ask, Reserve, Replace, Change, Rest, Wake}
 use Rattle.json_fields.specs.declared.forms.Sort.{Sort}
 use Rattle.json_fields.specs.declared.forms.TheConstants.{CALLS, FLOWS}
-use Rattle.json_fields.specs.Fields.{u8_or, u8_at, u16_at, u32_at, u64_at, number_at, text_at}
+use Rattle.json_fields.specs.Fields.{u8_or, u32_or, u8_at, u16_at, u32_at, u64_at, number_at, text_at}
 use Rattle.json_fields.proofs.FormRows.{takes_forms, leaving_out}
 use Rattle.call_reading.specs.Calls.{unsolicited_of, polled_of, best_effort_of, flow_of}
 use Rattle.call_reading.specs.Calls.{admit_call, remove_call, amount_of, ask_call, heard_call, build_call, skip_call}
@@ -16,8 +16,61 @@ use Rattle.call_reading.specs.Calls.{status_call, usage_of, reserve_call, header
 use Rattle.call_reading.specs.Calls.{rest_call, wake_call, call_of}
 
 flows : takes_forms (λ d. is_some (flow_of d)) (λ sort. null) FLOWS ≡ true
-unfolding flow_of unsolicited_of polled_of best_effort_of u8_or u8_at u32_at number_at text_at
+unfolding flow_of unsolicited_of polled_of best_effort_of u8_or u32_or u8_at u32_at number_at text_at
 flows = refl
+
+-- a polled flow, and one of best effort, with these members
+abbrev polled : Members → Data
+polled members =
+    object (put (codes "kind") (string (codes "polled")) (put (codes "interval_us") (number (unsigned 20000))
+    (put (codes "jitter_us") (number (unsigned 2000)) (put (codes "rate") (number (unsigned 1))
+    (put (codes "burst") (number (unsigned 2)) members)))))
+
+abbrev best_effort : Members → Data
+best_effort members =
+    object (put (codes "kind") (string (codes "best_effort")) (put (codes "priority") (number (unsigned 7))
+    (put (codes "rate") (number (unsigned 1)) (put (codes "burst") (number (unsigned 2)) members))))
+
+-- one of unsolicited grants
+abbrev unsolicited : Members → Data
+unsolicited members =
+    object (put (codes "kind") (string (codes "unsolicited")) (put (codes "size") (number (unsigned 232))
+    (put (codes "interval_us") (number (unsigned 20000)) (put (codes "jitter_us") (number (unsigned 800)) members))))
+
+-- what stands for a peak rate
+abbrev peak : Data → Members
+peak d = put (codes "peak") d no_members
+
+a_polled_flow_with_a_peak : flow_of (polled (peak (number (unsigned (2 ^ 32 - 1)))))
+    ≡ Some (Polled 20000 2000 1 2 (2 ^ 32 - 1))
+unfolding flow_of polled_of u32_or u32_at number_at text_at
+a_polled_flow_with_a_peak = refl
+
+a_polled_flow_without_a_peak : flow_of (polled no_members) ≡ Some (Polled 20000 2000 1 2 0)
+unfolding flow_of polled_of u32_or u32_at number_at text_at
+a_polled_flow_without_a_peak = refl
+
+a_polled_flow_with_too_great_a_peak : flow_of (polled (peak (number (unsigned (2 ^ 32))))) ≡ None
+unfolding flow_of polled_of u32_or u32_at number_at text_at
+a_polled_flow_with_too_great_a_peak = refl
+
+a_flow_of_best_effort_with_a_peak : flow_of (best_effort (peak (number (unsigned 3)))) ≡ Some (BestEffort 7 1 2 3)
+unfolding flow_of best_effort_of u32_or u8_at u32_at number_at text_at
+a_flow_of_best_effort_with_a_peak = refl
+
+a_flow_of_best_effort_with_a_peak_of_0 : flow_of (best_effort (peak (number (unsigned 0)))) ≡ Some (BestEffort 7 1 2 0)
+unfolding flow_of best_effort_of u32_or u8_at u32_at number_at text_at
+a_flow_of_best_effort_with_a_peak_of_0 = refl
+
+-- a null that stands there is no number, and does not stand for a missing one
+a_flow_of_best_effort_with_another_value : flow_of (best_effort (peak null)) ≡ None
+unfolding flow_of best_effort_of u32_or u8_at u32_at number_at text_at
+a_flow_of_best_effort_with_another_value = refl
+
+-- it is a key that nobody reads beside unsolicited grants
+an_unsolicited_flow_beside_a_peak : flow_of (unsolicited (peak null)) ≡ Some (Unsolicited 232 20000 800 1)
+unfolding flow_of unsolicited_of u8_or u8_at u32_at number_at text_at
+an_unsolicited_flow_beside_a_peak = refl
 
 -- a flow of best effort, whatever the sort
 abbrev flow : Sort → Data
@@ -28,7 +81,7 @@ flow sort =
 -- each call but a Reserve, whose SID stands beside some of its usages, a request with its bytes
 calls : takes_forms (λ d. is_some (call_of d)) flow (leaving_out (codes "slots") (take 7 CALLS)) ≡ true
 unfolding call_of admit_call remove_call amount_of ask_call heard_call build_call skip_call status_call flow_of
-    unsolicited_of polled_of best_effort_of u8_or u8_at u16_at u32_at u64_at number_at text_at
+    unsolicited_of polled_of best_effort_of u8_or u32_or u8_at u16_at u32_at u64_at number_at text_at
 calls = refl
 
 -- a request with its minislots in their place
@@ -92,7 +145,7 @@ headers = refl
 -- a request that supersedes those before, with its bytes, a change, and a flow that rests and wakes
 later_calls : takes_forms (λ d. is_some (call_of d)) flow (leaving_out (codes "slots") (drop 9 CALLS)) ≡ true
 unfolding call_of replace_call change_call rest_call wake_call amount_of flow_of unsolicited_of polled_of best_effort_of
-    u8_or u8_at u16_at u32_at u64_at number_at text_at
+    u8_or u32_or u8_at u16_at u32_at u64_at number_at text_at
 later_calls = refl
 
 -- a request that supersedes those before, with its minislots in their place
@@ -123,7 +176,7 @@ of_flow name n more = object (put (codes "call") (string name) (put (codes "sid"
 
 a_change : (sort : Sort) → call_of (of_flow (codes "change") 17 (put (codes "flow") (flow sort) no_members))
     ≡ Some (Change 17 (BestEffort 7 0 0 0))
-unfolding call_of change_call flow_of best_effort_of u8_at u16_at u32_at number_at text_at
+unfolding call_of change_call flow_of best_effort_of u32_or u8_at u16_at u32_at number_at text_at
 a_change sort = refl
 
 a_change_without_a_flow : call_of (of_flow (codes "change") 17 no_members) ≡ None

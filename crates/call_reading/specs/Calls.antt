@@ -12,7 +12,7 @@ use Rattle.sched_calls.specs.declared.opportunity.Usage.TheVariants.{Request, Qu
 use Rattle.sched_calls.specs.declared.call.Call.{Call}
 use Rattle.sched_calls.specs.declared.call.Call.TheVariants.{Admit, Remove, Ask, Heard, Build, Skip, Status}
 use Rattle.sched_calls.specs.declared.call.Call.TheVariants.{Reserve, Header, Replace, Change, Rest, Wake}
-use Rattle.json_fields.specs.Fields.{◌>>=◌, u8_at, u16_at, u32_at, u64_at, u8_or, text_at}
+use Rattle.json_fields.specs.Fields.{◌>>=◌, u8_at, u16_at, u32_at, u64_at, u8_or, u32_or, text_at}
 
 -- a flow of unsolicited grants: one in an interval where their number is missing
 unfoldable pub unsolicited_of : Data → Option FlowSpec
@@ -23,21 +23,23 @@ unsolicited_of d = do
   grants ← u8_or 1 (codes "grants") d
   Some (Unsolicited size interval jitter grants)
 
--- a polled flow
+-- a polled flow: its peak rate is no ceiling where it is missing
 unfoldable pub polled_of : Data → Option FlowSpec
 polled_of d = do
   interval ← u32_at (codes "interval_us") d
   jitter ← u32_at (codes "jitter_us") d
   rate ← u32_at (codes "rate") d
   burst ← u32_at (codes "burst") d
+  peak ← u32_or 0 (codes "peak") d
   Some (Polled interval jitter rate burst peak)
 
--- a best effort flow
+-- a best effort flow: the same
 unfoldable pub best_effort_of : Data → Option FlowSpec
 best_effort_of d = do
   priority ← u8_at (codes "priority") d
   rate ← u32_at (codes "rate") d
   burst ← u32_at (codes "burst") d
+  peak ← u32_or 0 (codes "peak") d
   Some (BestEffort priority rate burst peak)
 
 -- the flow that an object stands for, by its kind

@@ -3,7 +3,7 @@
 ghost use Rattle.std.specs.Prelude.{◌≡◌};
 ghost use Rattle.call_reading.specs.Calls.{unsolicited_of, polled_of, best_effort_of, flow_of};
 
-use json_fields::{Tree, number_u8, number_u8_or, number_u32, text};
+use json_fields::{Tree, number_u8, number_u8_or, number_u32, number_u32_or, text};
 use sched_calls::FlowSpec;
 
 // The grants in an interval are one where the key is missing.
@@ -27,15 +27,17 @@ fn unsolicited_of<T: Tree>(value: &T) -> Option<FlowSpec>
     })
 }
 
+// A peak rate is 0, which is no ceiling, where the key is missing.
 #[tactic(auto, unfolding(crate::specs::Calls::polled_of))]
 fn polled_of<T: Tree>(value: &T) -> Option<FlowSpec>
     ensures { result ≡ polled_of (T.shown value.now) }
 {
-    let (Some(interval_us), Some(jitter_us), Some(rate), Some(burst)) = (
+    let (Some(interval_us), Some(jitter_us), Some(rate), Some(burst), Some(peak)) = (
         number_u32(value, "interval_us"),
         number_u32(value, "jitter_us"),
         number_u32(value, "rate"),
         number_u32(value, "burst"),
+        number_u32_or(value, "peak", 0),
     ) else {
         return None;
     };
@@ -44,17 +46,20 @@ fn polled_of<T: Tree>(value: &T) -> Option<FlowSpec>
         jitter_us,
         rate,
         burst,
+        peak,
     })
 }
 
+// So is that of a best effort flow.
 #[tactic(auto, unfolding(crate::specs::Calls::best_effort_of))]
 fn best_effort_of<T: Tree>(value: &T) -> Option<FlowSpec>
     ensures { result ≡ best_effort_of (T.shown value.now) }
 {
-    let (Some(priority), Some(rate), Some(burst)) = (
+    let (Some(priority), Some(rate), Some(burst), Some(peak)) = (
         number_u8(value, "priority"),
         number_u32(value, "rate"),
         number_u32(value, "burst"),
+        number_u32_or(value, "peak", 0),
     ) else {
         return None;
     };
@@ -62,6 +67,7 @@ fn best_effort_of<T: Tree>(value: &T) -> Option<FlowSpec>
         priority,
         rate,
         burst,
+        peak,
     })
 }
 

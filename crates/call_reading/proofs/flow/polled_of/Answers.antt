@@ -7,5 +7,6 @@ use Rattle.call_reading.proofs.flow.polled_of.Goals as goal
 pub returns : goal.returns
 unfolding polled_of
 returns g c =
-    let read = c.in-Some-Some-Some-Some in
-    sym (then _ read.ensures (then _ read.ensures' (then _ read.ensures'' (then _ read.ensures''' refl))))
+    let read = c.in-Some-Some-Some-Some-Some in
+    sym (then _ read.ensures (then _ read.ensures' (then _ read.ensures'' (then _ read.ensures''' (
+    then _ read.ensures'''' refl)))))
