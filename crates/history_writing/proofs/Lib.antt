@@ -1,5 +1,6 @@
 mod BurstTokens
 mod ConfigTokens
+mod FlowTokens
 pub mod JsonNumbers
 pub mod JsonTokens
 pub mod RowsBursts

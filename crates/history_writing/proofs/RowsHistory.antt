@@ -10,6 +10,7 @@ use Rattle.sched_calls.proofs.Base.{base}
 use Rattle.sched_calls.proofs.BaseMaps.{first_map}
 use Rattle.sched_calls.specs.declared.amount.Amount.TheVariants.{Bytes, Slots}
 use Rattle.sched_calls.specs.declared.spec.FlowSpec.{FlowSpec}
+use Rattle.sched_calls.specs.declared.spec.FlowSpec.TheVariants.{Polled, BestEffort}
 use Rattle.sched_calls.specs.declared.call.Call.TheVariants.{Ask, Build, Replace, Change, Rest, Wake}
 use Rattle.sched_calls.specs.declared.reply.Refusal.TheVariants.{OtherKind, NotUnsolicited, TooShort}
 use Rattle.sched_calls.specs.declared.reply.Reply.TheVariants.{Built, Changed, Refused}
@@ -63,6 +64,29 @@ pub a_change : (spec : FlowSpec) → call_data (Change 17 spec) ≡ object (
     member (codes "sid") (number (unsigned 17)) no_members)))
 unfolding call_data
 a_change spec = refl
+
+-- a peak rate stands behind the burst where it is a ceiling, and nothing is said of one that is none
+pub a_polled_flow_with_a_peak : compact_text (flow_data (Polled 20000 2000 64000 1600 4294967295))
+    ≡ codes "{\"burst\":1600,\"interval_us\":20000,\"jitter_us\":2000,\"kind\":\"polled\"," ++
+    codes "\"peak\":4294967295,\"rate\":64000}"
+unfolding flow_data digits serde_json_on_literals
+a_polled_flow_with_a_peak = refl
+
+pub a_polled_flow_without_a_peak : compact_text (flow_data (Polled 20000 2000 64000 1600 0))
+    ≡ codes "{\"burst\":1600,\"interval_us\":20000,\"jitter_us\":2000,\"kind\":\"polled\"," ++
+    codes "\"rate\":64000}"
+unfolding flow_data digits serde_json_on_literals
+a_polled_flow_without_a_peak = refl
+
+pub a_flow_of_best_effort_with_a_peak : compact_text (flow_data (BestEffort 7 0 0 1))
+    ≡ codes "{\"burst\":0,\"kind\":\"best_effort\",\"peak\":1,\"priority\":7,\"rate\":0}"
+unfolding flow_data digits serde_json_on_literals
+a_flow_of_best_effort_with_a_peak = refl
+
+pub a_flow_of_best_effort_without_a_peak : compact_text (flow_data (BestEffort 7 0 0 0))
+    ≡ codes "{\"burst\":0,\"kind\":\"best_effort\",\"priority\":7,\"rate\":0}"
+unfolding flow_data digits serde_json_on_literals
+a_flow_of_best_effort_without_a_peak = refl
 
 -- a rest and a wake
 pub a_rest : compact_text (call_data (Rest 5)) ≡ codes "{\"call\":\"rest\",\"sid\":5}"

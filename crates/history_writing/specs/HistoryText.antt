@@ -9,7 +9,7 @@ use Rattle.minislots.specs.declared.bursts.Descriptors.{Descriptors}
 use Rattle.minislots.specs.declared.bursts.Profile.{Profile}
 use Rattle.minislots.specs.declared.config.Config.{Config}
 use Rattle.sched_calls.specs.declared.reply.Entry.{Entry}
-use Rattle.history_writing.specs.Json.{count, call_data, reply_data}
+use Rattle.history_writing.specs.Json.{count, optional_member, call_data, reply_data}
 
 -- a burst descriptor: a member for each of its numbers
 unfoldable pub profile_data : Profile → Data
@@ -33,10 +33,6 @@ unfoldable pub descriptors_data : Descriptors → Data
 descriptors_data d = object (
     member (codes "long") (profile_data d.long) (member (codes "short") (profile_data d.short) (
     member (codes "symbols") (count d.symbols) (unsolicited_member d))))
-
--- a number that stands only where it is another than the one of a missing member, and others behind it
-abbrev pub optional_member : ℕ → List ℕ → ℕ → Members → Members
-optional_member missing key n behind = if n == missing then behind else member key (count n) behind
 
 -- the fields of a configuration between its bursts and the overhead, and others behind them
 abbrev pub front_members : Config → Members → Members

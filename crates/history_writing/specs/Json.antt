@@ -1,8 +1,8 @@
 -- The JSON values that a flow, a call and a reply stand for in the text of a history: members in ascending order of
 -- their keys.
-use Rattle.std.specs.Prelude.{ℕ, List, map, codes, Option, None, Some}
+use Rattle.std.specs.Prelude.{ℕ, ◌==◌, if◌then◌else◌, List, map, codes, Option, None, Some}
 use Rattle.hex.specs.Hex.{encode_lower}
-use Rattle.serde_json.specs.Data.{Data, number, unsigned, string, array, object, no_members, member}
+use Rattle.serde_json.specs.Data.{Data, Members, number, unsigned, string, array, object, no_members, member}
 use Rattle.serde_json.specs.View.{items_of}
 use Rattle.map_codec.specs.WireMap.{spelling}
 use Rattle.sched_calls.specs.declared.amount.Amount.{Amount}
@@ -29,7 +29,11 @@ count n = number (unsigned n)
 unfoldable pub counts : List ℕ → Data
 counts ns = array (items_of (map count ns))
 
--- a flow, by its kind
+-- a number that stands only where it is another than the one of a missing member, and others behind it
+abbrev pub optional_member : ℕ → List ℕ → ℕ → Members → Members
+optional_member missing key n behind = if n == missing then behind else member key (count n) behind
+
+-- a flow, by its kind: a peak rate stands only where it is a ceiling
 unfoldable pub flow_data : FlowSpec → Data
 flow_data (Unsolicited size interval jitter grants) = object (
     member (codes "grants") (count grants) (member (codes "interval_us") (count interval) (
@@ -38,10 +42,11 @@ flow_data (Unsolicited size interval jitter grants) = object (
 flow_data (Polled interval jitter rate burst peak) = object (
     member (codes "burst") (count burst) (member (codes "interval_us") (count interval) (
     member (codes "jitter_us") (count jitter) (member (codes "kind") (string (codes "polled")) (
-    member (codes "rate") (count rate) no_members)))))
+    optional_member 0 (codes "peak") peak (member (codes "rate") (count rate) no_members))))))
 flow_data (BestEffort priority rate burst peak) = object (
     member (codes "burst") (count burst) (member (codes "kind") (string (codes "best_effort")) (
-    member (codes "priority") (count priority) (member (codes "rate") (count rate) no_members))))
+    optional_member 0 (codes "peak") peak (
+    member (codes "priority") (count priority) (member (codes "rate") (count rate) no_members)))))
 
 -- a request of this name, with its bytes or with the minislots that it has in their place
 abbrev pub request_data : List ℕ → ℕ → ℕ → Amount → ℕ → Data

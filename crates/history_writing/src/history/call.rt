@@ -9,7 +9,7 @@ ghost use Rattle.history_writing.specs.Json.{count, flow_data, request_data, par
 ghost use Rattle.history_writing.specs.Json.{call_data};
 ghost use Rattle.history_writing.specs.Tokens.{tokens_of};
 
-use super::count::{put_count, put_name};
+use super::count::{put_count, put_name, put_optional};
 use json::Writer;
 use sched_calls::{Amount, Call, FlowSpec, Header, Usage};
 use std::alloc::AllocError;
@@ -35,6 +35,7 @@ fn put_unsolicited(
     out.end_object()
 }
 
+// A peak rate stands where it is a ceiling.
 #[tactic(auto, unfolding(crate::specs::Json::flow_data))]
 fn put_polled(
     out: &mut Writer,
@@ -42,9 +43,10 @@ fn put_polled(
     jitter_us: u32,
     rate: u32,
     burst: u32,
+    peak: u32,
 ) -> Result<(), AllocError>
     ensures ok { OnOk result (out.new.tokens ≡ out.old.tokens
-        ++ tokens_of (flow_data (Polled interval_us jitter_us rate burst))) }
+        ++ tokens_of (flow_data (Polled interval_us jitter_us rate burst peak))) }
     ensures before { out.new.before ≡ out.old.before }
 {
     out.begin_object()?;
@@ -52,19 +54,28 @@ fn put_polled(
     put_count(out, "interval_us", interval_us as u64)?;
     put_count(out, "jitter_us", jitter_us as u64)?;
     put_name(out, "kind", "polled")?;
+    put_optional(out, "peak", peak as u64, 0)?;
     put_count(out, "rate", rate as u64)?;
     out.end_object()
 }
 
+// So does that of a best effort flow.
 #[tactic(auto, unfolding(crate::specs::Json::flow_data))]
-fn put_best_effort(out: &mut Writer, priority: u8, rate: u32, burst: u32) -> Result<(), AllocError>
+fn put_best_effort(
+    out: &mut Writer,
+    priority: u8,
+    rate: u32,
+    burst: u32,
+    peak: u32,
+) -> Result<(), AllocError>
     ensures ok { OnOk result (out.new.tokens
-        ≡ out.old.tokens ++ tokens_of (flow_data (BestEffort priority rate burst))) }
+        ≡ out.old.tokens ++ tokens_of (flow_data (BestEffort priority rate burst peak))) }
     ensures before { out.new.before ≡ out.old.before }
 {
     out.begin_object()?;
     put_count(out, "burst", burst as u64)?;
     put_name(out, "kind", "best_effort")?;
+    put_optional(out, "peak", peak as u64, 0)?;
     put_count(out, "priority", priority as u64)?;
     put_count(out, "rate", rate as u64)?;
     out.end_object()
@@ -88,12 +99,14 @@ fn put_flow(out: &mut Writer, flow: FlowSpec) -> Result<(), AllocError>
             jitter_us,
             rate,
             burst,
-        } => put_polled(out, interval_us, jitter_us, rate, burst),
+            peak,
+        } => put_polled(out, interval_us, jitter_us, rate, burst, peak),
         FlowSpec::BestEffort {
             priority,
             rate,
             burst,
-        } => put_best_effort(out, priority, rate, burst),
+            peak,
+        } => put_best_effort(out, priority, rate, burst, peak),
     }
 }
 

@@ -1,0 +1,29 @@
+-- The tokens of a flow, whose peak rate stands only where it is a ceiling.
+use Rattle.std.proofs.Common.{◌≡◌, ℕ, ◌==◌, [], ◌∷◌, codes, inl, inr, refl}
+use Rattle.std.proofs.lemmas.Bool.{cases_Bool}
+use Rattle.json.specs.Token.{Token}
+use Rattle.sched_calls.specs.declared.spec.FlowSpec.TheVariants.{Polled, BestEffort}
+use Rattle.history_writing.specs.Json.{flow_data}
+use Rattle.history_writing.specs.Tokens.{tokens_of, numbered, optional_tokens, titled, joined}
+
+-- those of a polled flow
+pub polled-tokens : (interval jitter rate burst peak : ℕ) → tokens_of (flow_data (Polled interval jitter rate burst peak))
+    ≡ joined ((Token.begin_object ∷ []) ∷ numbered (codes "burst") burst ∷ numbered (codes "interval_us") interval
+    ∷ numbered (codes "jitter_us") jitter ∷ titled (codes "kind") (codes "polled")
+    ∷ optional_tokens 0 (codes "peak") peak ∷ numbered (codes "rate") rate ∷ (Token.end_object ∷ []) ∷ [])
+unfolding flow_data
+polled-tokens interval jitter rate burst peak = elim (cases_Bool (peak == 0)) [
+  | inl none ↦ rw none refl
+  | inr stands ↦ rw stands refl
+]
+
+-- and of one of best effort
+pub best_effort-tokens : (priority rate burst peak : ℕ) → tokens_of (flow_data (BestEffort priority rate burst peak))
+    ≡ joined ((Token.begin_object ∷ []) ∷ numbered (codes "burst") burst ∷ titled (codes "kind") (codes "best_effort")
+    ∷ optional_tokens 0 (codes "peak") peak ∷ numbered (codes "priority") priority ∷ numbered (codes "rate") rate
+    ∷ (Token.end_object ∷ []) ∷ [])
+unfolding flow_data
+best_effort-tokens priority rate burst peak = elim (cases_Bool (peak == 0)) [
+  | inl none ↦ rw none refl
+  | inr stands ↦ rw stands refl
+]
