@@ -6,7 +6,7 @@ use Rattle.std.specs.Prelude.{codes}
 use Rattle.std.specs.List.{AllByRecursion}
 use Rattle.std.proofs.lemmas.Bool.{cases_Bool}
 use Rattle.json.proofs.Printed.Utf8.{are_ascii, IsUtf8-are_ascii}
-use Rattle.serde_json.specs.Data.{Members, object, member}
+use Rattle.serde_json.specs.Data.{Members, object, member, string}
 use Rattle.serde_json.specs.View.{items_of}
 use Rattle.minislots.specs.declared.bursts.Bursts.{Bursts}
 use Rattle.minislots.specs.declared.bursts.Bursts.TheVariants.{Uniform, Described}
@@ -22,13 +22,13 @@ use Rattle.sched_calls.specs.declared.opportunity.Usage.TheVariants.{Initial, In
 use Rattle.sched_calls.specs.declared.opportunity.Usage.TheVariants.{Request, Quiet, DataTo}
 use Rattle.sched_calls.specs.declared.call.Call.TheVariants.{Admit, Remove, Ask, Heard, Build, Skip, Status}
 use Rattle.sched_calls.specs.declared.call.Call.TheVariants.{Reserve, Header, Replace, Change, Rest, Wake}
-use Rattle.history_writing.specs.Json.{count, flow_data, request_data, parameters_data, reserve_for, reserve_to}
-use Rattle.history_writing.specs.Json.{call_data}
+use Rattle.history_writing.specs.Json.{count, optional_member, flow_data, request_data, parameters_data}
+use Rattle.history_writing.specs.Json.{reserve_for, reserve_to, call_data}
 use Rattle.history_writing.specs.HistoryText.{profile_data, descriptors_data, front_members, back_members}
-use Rattle.history_writing.specs.HistoryText.{optional_member, members_with, config_data}
+use Rattle.history_writing.specs.HistoryText.{members_with, config_data}
 use Rattle.history_writing.specs.Fits.{FlowFits, AmountFits, CallFits, ProfileFits, BurstsFit, ConfigFits}
 use Rattle.laws.proofs.Readable.{IsReadable, AreReadable, MembersReadable}
-use Rattle.laws.proofs.Standing.{in_order}
+use Rattle.laws.proofs.Standing.{always, unless, sorted, in_order}
 use Rattle.laws.proofs.ReadBack.{unsolicited_stands}
 
 -- narrower numbers
@@ -55,6 +55,14 @@ counts_readable limit (n ∷ ns) most fits =
     let here = fits.0 in
     (omega (arith, here, most), counts_readable limit ns most fits.1)
 
+-- a number that may be left out
+optional_readable : (missing : ℕ) (key : List ℕ) (n : ℕ) (behind : Members) → are_ascii key ≡ true → n < 2 ^ 64
+    → MembersReadable behind → MembersReadable (optional_member missing key n behind)
+optional_readable missing key n behind ascii fits readable = elim (cases_Bool (n == missing)) [
+  | inl same ↦ rw same readable
+  | inr other ↦ rw other (ascii, fits, readable)
+]
+
 flow_readable : (spec : FlowSpec) → FlowFits spec → IsReadable (flow_data spec)
 unfolding flow_data
 flow_readable (Unsolicited size interval jitter grants) fits = (
@@ -74,7 +82,9 @@ flow_readable (Unsolicited size interval jitter grants) fits = (
   ),
 )
 flow_readable (Polled interval jitter rate burst peak) fits = (
-  refl,
+  sorted (always (codes "burst") (count burst) ∷ always (codes "interval_us") (count interval)
+      ∷ always (codes "jitter_us") (count jitter) ∷ always (codes "kind") (string (codes "polled"))
+      ∷ unless 0 (codes "peak") peak ∷ always (codes "rate") (count rate) ∷ []) refl,
   (
     refl,
     of_word burst fits.3,
@@ -84,24 +94,27 @@ flow_readable (Polled interval jitter rate burst peak) fits = (
       (
         refl,
         of_word jitter fits.1,
-        (refl, name (codes "polled") refl, (refl, of_word rate fits.2, tt)),
+        (
+          refl,
+          name (codes "polled") refl,
+          optional_readable 0 (codes "peak") peak _ refl (of_word peak fits.4) (refl, of_word rate fits.2, tt),
+        ),
       ),
     ),
   ),
 )
 flow_readable (BestEffort priority rate burst peak) fits = (
-  refl,
+  sorted (always (codes "burst") (count burst) ∷ always (codes "kind") (string (codes "best_effort"))
+      ∷ unless 0 (codes "peak") peak ∷ always (codes "priority") (count priority)
+      ∷ always (codes "rate") (count rate) ∷ []) refl,
   (
     refl,
     of_word burst fits.2,
     (
       refl,
       name (codes "best_effort") refl,
-      (
-        refl,
-        of_byte priority fits.0,
-        (refl, of_word rate fits.1, tt),
-      ),
+      optional_readable 0 (codes "peak") peak _ refl (of_word peak fits.3)
+          (refl, of_byte priority fits.0, (refl, of_word rate fits.1, tt)),
     ),
   ),
 )
@@ -263,14 +276,6 @@ descriptors_readable d fits =
           let unsolicited = profile_readable d.unsolicited fits.3 in
           rw stands (refl, (refl, long, (refl, short, (refl, symbols, (refl, unsolicited, tt)))))
     ]
-
--- a number that may be left out
-optional_readable : (missing : ℕ) (key : List ℕ) (n : ℕ) (behind : Members) → are_ascii key ≡ true → n < 2 ^ 64
-    → MembersReadable behind → MembersReadable (optional_member missing key n behind)
-optional_readable missing key n behind ascii fits readable = elim (cases_Bool (n == missing)) [
-  | inl same ↦ rw same readable
-  | inr other ↦ rw other (ascii, fits, readable)
-]
 
 front_readable : (c : Config) (behind : Members) → ConfigFits c → MembersReadable behind
     → MembersReadable (front_members c behind)

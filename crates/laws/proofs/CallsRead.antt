@@ -12,6 +12,7 @@ use Rattle.sched_calls.specs.declared.opportunity.Usage.TheVariants.{Request, Qu
 use Rattle.sched_calls.specs.declared.call.Call.TheVariants.{Reserve}
 use Rattle.sched_calls.specs.declared.reply.Entry.{Entry}
 use Rattle.json_fields.specs.Fields.{◌>>=◌, below, number_at, u8_at, u16_at, u32_at, u64_at, text_at, or_number, u8_or}
+use Rattle.json_fields.specs.Fields.{u32_or}
 use Rattle.call_reading.specs.Calls.{unsolicited_of, polled_of, best_effort_of, flow_of, admit_call, remove_call}
 use Rattle.call_reading.specs.Calls.{amount_of, ask_call, heard_call, build_call, skip_call, status_call}
 use Rattle.call_reading.specs.Calls.{usage_to, usage_of, reserve_call, header_call, replace_call, change_call}
@@ -67,14 +68,18 @@ u64_at-below : (key : List ℕ) (d : Data) → IfSome (u64_at key d) (IsBelow (2
 unfolding u64_at
 u64_at-below key d = below-limit (2 ^ 64) (number_at key d)
 
-or-below : (found : Option Data) (there : Option ℕ) → IfSome there (IsBelow (2 ^ 8))
-    → IfSome (or_number 1 found there) (IsBelow (2 ^ 8))
-or-below None there small = omega arith
-or-below (Some found) there small = small
+or-below : (limit missing : ℕ) (found : Option Data) (there : Option ℕ) → missing < limit
+    → IfSome there (IsBelow limit) → IfSome (or_number missing found there) (IsBelow limit)
+or-below limit missing None there least small = least
+or-below limit missing (Some found) there least small = small
 
 u8_or-below : (key : List ℕ) (d : Data) → IfSome (u8_or 1 key d) (IsBelow (2 ^ 8))
 unfolding u8_or
-u8_or-below key d = or-below (get key d) (u8_at key d) (u8_at-below key d)
+u8_or-below key d = or-below (2 ^ 8) 1 (get key d) (u8_at key d) (omega arith) (u8_at-below key d)
+
+u32_or-below : (key : List ℕ) (d : Data) → IfSome (u32_or 0 key d) (IsBelow (2 ^ 32))
+unfolding u32_or
+u32_or-below key d = or-below (2 ^ 32) 0 (get key d) (u32_at key d) (omega arith) (u32_at-below key d)
 
 unsolicited-fits : (d : Data) → IfSome (unsolicited_of d) FlowFits
 unfolding unsolicited_of
@@ -90,14 +95,16 @@ polled-fits d =
     bind _ _ (u32_at (codes "interval_us") d) _ (u32_at-below (codes "interval_us") d) (λ interval a.
     bind _ _ (u32_at (codes "jitter_us") d) _ (u32_at-below (codes "jitter_us") d) (λ jitter b.
     bind _ _ (u32_at (codes "rate") d) _ (u32_at-below (codes "rate") d) (λ rate e.
-    bind _ _ (u32_at (codes "burst") d) _ (u32_at-below (codes "burst") d) (λ burst f. (a, b, e, f)))))
+    bind _ _ (u32_at (codes "burst") d) _ (u32_at-below (codes "burst") d) (λ burst f.
+    bind _ _ (u32_or 0 (codes "peak") d) _ (u32_or-below (codes "peak") d) (λ peak g. (a, b, e, f, g))))))
 
 best_effort-fits : (d : Data) → IfSome (best_effort_of d) FlowFits
 unfolding best_effort_of
 best_effort-fits d =
     bind _ _ (u8_at (codes "priority") d) _ (u8_at-below (codes "priority") d) (λ priority a.
     bind _ _ (u32_at (codes "rate") d) _ (u32_at-below (codes "rate") d) (λ rate b.
-    bind _ _ (u32_at (codes "burst") d) _ (u32_at-below (codes "burst") d) (λ burst e. (a, b, e))))
+    bind _ _ (u32_at (codes "burst") d) _ (u32_at-below (codes "burst") d) (λ burst e.
+    bind _ _ (u32_or 0 (codes "peak") d) _ (u32_or-below (codes "peak") d) (λ peak f. (a, b, e, f)))))
 
 flow-fits : (d : Data) → IfSome (flow_of d) FlowFits
 unfolding flow_of

@@ -53,8 +53,14 @@ room-counts ns = omega (arith, items_room-counts ns)
 room-flow : (spec : FlowSpec) → room (flow_data spec) ≤ 400
 unfolding flow_data
 room-flow (Unsolicited size interval jitter grants) = omega arith
-room-flow (Polled interval jitter rate burst peak) = omega arith
-room-flow (BestEffort priority rate burst peak) = omega arith
+room-flow (Polled interval jitter rate burst peak) = elim (cases_Bool (peak == 0)) [
+  | inl none ↦ rw none (omega arith)
+  | inr stands ↦ rw stands (omega arith)
+]
+room-flow (BestEffort priority rate burst peak) = elim (cases_Bool (peak == 0)) [
+  | inl none ↦ rw none (omega arith)
+  | inr stands ↦ rw stands (omega arith)
+]
 
 room-call : (call : Call) → room (call_data call) ≤ 1000
 unfolding call_data

@@ -41,8 +41,14 @@ depth-counts ns = let e = depth-numbers ns in omega (arith, e)
 depth-flow : (spec : FlowSpec) → depth (flow_data spec) ≡ 1
 unfolding flow_data
 depth-flow (Unsolicited size interval jitter grants) = refl
-depth-flow (Polled interval jitter rate burst peak) = refl
-depth-flow (BestEffort priority rate burst peak) = refl
+depth-flow (Polled interval jitter rate burst peak) = elim (cases_Bool (peak == 0)) [
+  | inl none ↦ rw none refl
+  | inr stands ↦ rw stands refl
+]
+depth-flow (BestEffort priority rate burst peak) = elim (cases_Bool (peak == 0)) [
+  | inl none ↦ rw none refl
+  | inr stands ↦ rw stands refl
+]
 
 depth-call : (call : Call) → depth (call_data call) ≤ 2
 unfolding call_data

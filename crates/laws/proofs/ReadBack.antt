@@ -41,18 +41,34 @@ below-fits limit n fits = rw (lt-ltb n limit fits) refl
 
 -- a flow is read back
 pub flow_of-data : (spec : FlowSpec) → FlowFits spec → flow_of (flow_data spec) ≡ Some spec
-unfolding flow_of unsolicited_of polled_of best_effort_of u8_at u8_or u32_at number_at text_at flow_data
+unfolding flow_of unsolicited_of polled_of best_effort_of u8_at u8_or u32_at u32_or number_at text_at flow_data
 flow_of-data (Unsolicited size interval jitter grants) fits =
     rw (below-fits (2 ^ 32) size fits.0) (
     rw (below-fits (2 ^ 32) interval fits.1) (rw (below-fits (2 ^ 32) jitter fits.2)
     (rw (below-fits (2 ^ 8) grants fits.3) refl)))
-flow_of-data (Polled interval jitter rate burst peak) fits =
-    rw (below-fits (2 ^ 32) interval fits.0) (
-    rw (below-fits (2 ^ 32) jitter fits.1) (rw (below-fits (2 ^ 32) rate fits.2)
-    (rw (below-fits (2 ^ 32) burst fits.3) refl)))
-flow_of-data (BestEffort priority rate burst peak) fits =
-    rw (below-fits (2 ^ 8) priority fits.0) (
-    rw (below-fits (2 ^ 32) rate fits.1) (rw (below-fits (2 ^ 32) burst fits.2) refl))
+flow_of-data (Polled interval jitter rate burst peak) fits = elim (cases_Bool (peak == 0)) [
+  | inl none ↦
+      let as_missing : 0 ≡ peak = grind (arith, nat_tests) in
+      rw none (rw (below-fits (2 ^ 32) interval fits.0) (
+      rw (below-fits (2 ^ 32) jitter fits.1) (rw (below-fits (2 ^ 32) rate fits.2)
+      (rw (below-fits (2 ^ 32) burst fits.3)
+      (ap (λ (n : ℕ). Some (Polled interval jitter rate burst n)) as_missing)))))
+  | inr stands ↦
+      rw stands (rw (below-fits (2 ^ 32) interval fits.0) (
+      rw (below-fits (2 ^ 32) jitter fits.1) (rw (below-fits (2 ^ 32) rate fits.2)
+      (rw (below-fits (2 ^ 32) burst fits.3) (rw (below-fits (2 ^ 32) peak fits.4) refl)))))
+]
+flow_of-data (BestEffort priority rate burst peak) fits = elim (cases_Bool (peak == 0)) [
+  | inl none ↦
+      let as_missing : 0 ≡ peak = grind (arith, nat_tests) in
+      rw none (rw (below-fits (2 ^ 8) priority fits.0) (
+      rw (below-fits (2 ^ 32) rate fits.1) (rw (below-fits (2 ^ 32) burst fits.2)
+      (ap (λ (n : ℕ). Some (BestEffort priority rate burst n)) as_missing))))
+  | inr stands ↦
+      rw stands (rw (below-fits (2 ^ 8) priority fits.0) (
+      rw (below-fits (2 ^ 32) rate fits.1) (rw (below-fits (2 ^ 32) burst fits.2)
+      (rw (below-fits (2 ^ 32) peak fits.3) refl))))
+]
 
 -- a call is read back
 pub call_of-data : (call : Call) → CallFits call → call_of (call_data call) ≡ Some call

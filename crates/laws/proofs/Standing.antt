@@ -12,8 +12,8 @@ use Rattle.minislots.specs.declared.bursts.Bursts.{Bursts}
 use Rattle.minislots.specs.declared.bursts.Bursts.TheVariants.{Uniform, Described}
 use Rattle.minislots.specs.declared.bursts.Descriptors.{Descriptors}
 use Rattle.minislots.specs.declared.config.Config.{Config}
-use Rattle.history_writing.specs.Json.{count}
-use Rattle.history_writing.specs.HistoryText.{optional_member, descriptors_data, members_with}
+use Rattle.history_writing.specs.Json.{count, optional_member}
+use Rattle.history_writing.specs.HistoryText.{descriptors_data, members_with}
 use Rattle.laws.proofs.Readable.{put_each}
 
 -- a member that always stands, and a number that stands where it is another than the one of a missing member
@@ -67,7 +67,7 @@ all_above key [] = true
 all_above key (p ∷ ps) = is_above (title_of p) key && all_above key ps
 
 -- each title is below those behind it
-abbrev in_turn : List Part → Bool
+abbrev pub in_turn : List Part → Bool
 in_turn [] = true
 in_turn (p ∷ ps) = all_above (title_of p) ps && in_turn ps
 
@@ -160,7 +160,7 @@ all_top-nothing [] = refl
 all_top-nothing (p ∷ ps) = all_top-nothing ps
 
 -- so members in turn are in order, whichever are left out
-sorted : (ps : List Part) → in_turn ps ≡ true → put_each (laid ps) no_members ≡ laid ps
+pub sorted : (ps : List Part) → in_turn ps ≡ true → put_each (laid ps) no_members ≡ laid ps
 sorted ps turn = put-laid ps no_members (all_top-nothing ps) turn
 
 -- the places of a configuration
