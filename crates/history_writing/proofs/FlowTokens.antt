@@ -7,7 +7,8 @@ use Rattle.history_writing.specs.Json.{flow_data}
 use Rattle.history_writing.specs.Tokens.{tokens_of, numbered, optional_tokens, titled, joined}
 
 -- those of a polled flow
-pub polled-tokens : (interval jitter rate burst peak : ℕ) → tokens_of (flow_data (Polled interval jitter rate burst peak))
+pub polled-tokens : (interval jitter rate burst peak : ℕ)
+    → tokens_of (flow_data (Polled interval jitter rate burst peak))
     ≡ joined ((Token.begin_object ∷ []) ∷ numbered (codes "burst") burst ∷ numbered (codes "interval_us") interval
     ∷ numbered (codes "jitter_us") jitter ∷ titled (codes "kind") (codes "polled")
     ∷ optional_tokens 0 (codes "peak") peak ∷ numbered (codes "rate") rate ∷ (Token.end_object ∷ []) ∷ [])
