@@ -34,9 +34,10 @@ unsolicited-alike c size interval jitter grants size' interval' jitter' grants' 
     rw (sizes, intervals, jitters, all)
     (record { periodic = refl; interval = refl; jitter = refl; slots = refl; grants = refl; size = refl })
 
-polled-alike : (c : Config) (interval jitter rate burst interval' jitter' rate' burst' : ℕ) → interval' ≡ interval
-    → jitter' ≡ jitter → ArePlacedAlike c (Polled interval jitter rate burst peak) (Polled interval' jitter' rate' burst' peak')
-polled-alike c interval jitter rate burst interval' jitter' rate' burst' intervals jitters =
+polled-alike : (c : Config) (interval jitter rate burst peak interval' jitter' rate' burst' peak' : ℕ)
+    → interval' ≡ interval → jitter' ≡ jitter
+    → ArePlacedAlike c (Polled interval jitter rate burst peak) (Polled interval' jitter' rate' burst' peak')
+polled-alike c interval jitter rate burst peak interval' jitter' rate' burst' peak' intervals jitters =
     rw (intervals, jitters)
     (record { periodic = refl; interval = refl; jitter = refl; slots = refl; grants = refl; size = refl })
 
@@ -46,7 +47,7 @@ alike-placed c (Unsolicited size interval jitter grants) (Unsolicited size' inte
     unsolicited-alike c size interval jitter grants size' interval' jitter' grants' (grind (arith, nat_tests))
     (grind (arith, nat_tests)) (grind (arith, nat_tests)) (grind (arith, nat_tests))
 alike-placed c (Polled interval jitter rate burst peak) (Polled interval' jitter' rate' burst' peak') same =
-    polled-alike c interval jitter rate burst interval' jitter' rate' burst' (grind (arith, nat_tests))
+    polled-alike c interval jitter rate burst peak interval' jitter' rate' burst' peak' (grind (arith, nat_tests))
     (grind (arith, nat_tests))
 alike-placed c old new same = absurd cc
 
