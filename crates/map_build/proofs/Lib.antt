@@ -24,6 +24,7 @@ pub mod RowsFirstGrant
 pub mod RowsIdles
 pub mod RowsMaps
 pub mod RowsOffers
+pub mod RowsPeak
 pub mod RowsPoll
 pub mod RowsTurns
 pub mod RowsUnlawful

@@ -11,6 +11,7 @@ use Rattle.map_build.specs.Plan.{demand_at}
 use Rattle.map_build.specs.FrameMap.{IsLawfulMap}
 use Rattle.sched_calls.proofs.Base.{base}
 use Rattle.flow_book.proofs.FirstGrant.{KeepsCeiling-first}
+use Rattle.flow_book.proofs.Unlimited.{KeepsWith-peakless}
 use Rattle.sched_calls.proofs.BaseMaps.{element, base_map}
 use Rattle.map_build.proofs.RowsMaps.{none_waits}
 use Rattle.map_build.proofs.RowsContention.{filled_by}
@@ -24,12 +25,15 @@ fresh burst asked heard = record {
   batches = one_request asked heard;
   grants = [];
   earlier = 0;
+  peak_earlier = 0;
 }
 
 -- it may take up to 544 bytes at once, where these are no more than its burst
-may_take : (burst asked heard start bytes : ℕ) → 544 ≤ burst → bytes ≤ 544 → MayTake base (fresh burst asked heard) start 36 bytes
+may_take : (burst asked heard start bytes : ℕ) → 544 ≤ burst → bytes ≤ 544
+    → MayTake base (fresh burst asked heard) start 36 bytes
 may_take burst asked heard start bytes enough few = record {
-  ceiling = KeepsCeiling-first base 64000 burst (record { start = start; bytes = bytes }) (omega arith);
+  ceiling = KeepsWith-peakless base (fresh burst asked heard) start bytes refl
+      (KeepsCeiling-first base 64000 burst (record { start = start; bytes = bytes }) (omega arith));
   fits = omega arith;
 }
 

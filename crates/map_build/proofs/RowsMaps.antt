@@ -14,6 +14,7 @@ use Rattle.map_build.specs.Plan.{demand_at, NoneToMeet}
 use Rattle.map_build.specs.FrameMap.{IsLawfulMap}
 use Rattle.sched_calls.proofs.Base.{base}
 use Rattle.sched_calls.proofs.BaseMaps.{element, base_map, first_map}
+use Rattle.flow_book.proofs.Unlimited.{MayGrant-unlimited, IsEligible-unlimited}
 use Rattle.map_build.proofs.FlowsAfter.{allocation}
 
 nothing-waits : (place : ℕ) (o : Opportunity) → slice_get [] place ≡ Some o → ⊥
@@ -70,6 +71,7 @@ small = record {
   batches = one_request 100 801;
   grants = [];
   earlier = 0;
+  peak_earlier = 0;
 }
 
 -- a frame with its grant of nine minislots
@@ -98,20 +100,11 @@ a_frame_with_one_grant = (
           refl,
           record {
             live = (0, lit< tt, refl);
-            eligible = record {
-              serves = refl;
-              waits = lit< tt;
-              takes = record { ceiling = λ limited. absurd (omega arith); fits = lit≤ tt };
-            };
+            eligible = IsEligible-unlimited base small 844 36 refl refl refl (lit< tt) (lit≤ tt);
             first = ((λ e. inl refl), tt);
           },
           record {
-            allowed = record {
-              positive = lit< tt;
-              asked = lit≤ tt;
-              capped = lit≤ tt;
-              taken = record { ceiling = λ limited. absurd (omega arith); fits = lit≤ tt };
-            };
+            allowed = MayGrant-unlimited base small 844 36 100 refl refl (lit< tt) (lit≤ tt) (lit≤ tt) (lit≤ tt);
             greatest = λ more may. may.asked;
           },
           refl,

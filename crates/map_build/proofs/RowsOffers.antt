@@ -14,6 +14,7 @@ use Rattle.map_build.specs.Purpose.{element_of}
 use Rattle.map_build.specs.Plan.{demand_at, IsMetIn, NoneToMeet}
 use Rattle.map_build.specs.FrameMap.{IsLawfulMap}
 use Rattle.sched_calls.proofs.Base.{base, the_base_has_bursts}
+use Rattle.flow_book.proofs.Unlimited.{MayGrant-unlimited, IsEligible-unlimited}
 use Rattle.map_build.proofs.Apart.{BeginApart-nil}
 use Rattle.map_build.proofs.FlowsAfter.{allocation}
 use Rattle.map_build.proofs.Offers.{met-only}
@@ -218,20 +219,11 @@ an_opportunity_goes_before_data = (
             refl,
             record {
               live = (0, lit< tt, refl);
-              eligible = record {
-                serves = refl;
-                waits = lit< tt;
-                takes = record { ceiling = λ limited. absurd (omega arith); fits = lit≤ tt };
-              };
+              eligible = IsEligible-unlimited base small 852 28 refl refl refl (lit< tt) (lit≤ tt);
               first = ((λ e. inl refl), tt);
             },
             record {
-              allowed = record {
-                positive = lit< tt;
-                asked = lit≤ tt;
-                capped = lit≤ tt;
-                taken = record { ceiling = λ limited. absurd (omega arith); fits = lit≤ tt };
-              };
+              allowed = MayGrant-unlimited base small 852 28 100 refl refl (lit< tt) (lit≤ tt) (lit≤ tt) (lit≤ tt);
               greatest = λ more may. may.asked;
             },
             refl,

@@ -2,8 +2,8 @@
 use Rattle.std.proofs.Common.{◌≡◌, None, List, [], ◌∷◌, map, refl, inr, lit<, arith}
 use Rattle.map_codec.specs.Element.{word_of}
 use Rattle.sched_calls.specs.declared.spec.FlowSpec.TheVariants.{Polled}
-use Rattle.flow_book.specs.Batches.{no_batches}
 use Rattle.flow_book.specs.Flows.{LiveFlow}
+use Rattle.flow_book.specs.Book.{new_flow}
 use Rattle.periodic.specs.declared.placement.Spot.{Spot}
 use Rattle.sched_calls.specs.declared.frame_map.FrameMap.{FrameMap}
 use Rattle.map_build.specs.declared.purpose.Allocation.{Allocation}
@@ -18,7 +18,7 @@ use Rattle.map_build.proofs.RowsMaps.{none_waits}
 
 -- a polled flow of 5000 microseconds that asked nothing yet
 abbrev pub polled : LiveFlow
-polled = record { sid = 9; spec = Polled 5000 0 0 0 0; asked = 0; batches = no_batches; grants = []; earlier = 0 }
+polled = new_flow 9 (Polled 5000 0 0 0 0)
 
 -- its poll, two minislots behind the request region
 abbrev pub its_poll : Spot

@@ -1,8 +1,8 @@
 -- Worked examples of lawful MAPs with unsolicited grants.
 use Rattle.std.proofs.Common.{◌≡◌, ℕ, List, [], ◌∷◌, map, refl, inr, lit<, arith}
 use Rattle.map_codec.specs.Element.{word_of}
-use Rattle.flow_book.specs.Batches.{no_batches}
 use Rattle.flow_book.specs.Flows.{LiveFlow}
+use Rattle.flow_book.specs.Book.{new_flow}
 use Rattle.periodic.specs.declared.placement.Spot.{Spot}
 use Rattle.sched_calls.specs.declared.frame_map.FrameMap.{FrameMap}
 use Rattle.map_build.specs.declared.purpose.Allocation.{Allocation}
@@ -19,7 +19,7 @@ use Rattle.map_build.proofs.RowsMaps.{none_waits}
 
 -- an unsolicited flow
 abbrev voice_flow : ℕ → LiveFlow
-voice_flow sid = record { sid = sid; spec = voice; asked = 0; batches = no_batches; grants = []; earlier = 0 }
+voice_flow sid = new_flow sid voice
 
 -- the unsolicited flows 5 and 6
 abbrev pub voices : List LiveFlow
@@ -81,7 +81,7 @@ the_words_of_a_frame_with_unsolicited_grants = refl
 
 -- the unsolicited flow 5 with two grants in an interval
 abbrev pub double_voices : List LiveFlow
-double_voices = record { sid = 5; spec = double_voice; asked = 0; batches = no_batches; grants = []; earlier = 0 } ∷ []
+double_voices = new_flow 5 double_voice ∷ []
 
 -- the MAP of a frame with both
 abbrev pub double_map : FrameMap
