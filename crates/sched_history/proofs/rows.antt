@@ -6,6 +6,8 @@ pub mod Receivers
 pub mod Refusals
 pub mod Lives
 pub mod Ceiling
+pub mod Peak
+pub mod Periods
 pub mod Turns
 pub mod Periodic
 pub mod Polled

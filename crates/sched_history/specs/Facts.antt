@@ -7,8 +7,9 @@ use Rattle.minislots.specs.declared.config.Config.{Config}
 use Rattle.map_codec.specs.declared.element.Element.{Element}
 use Rattle.map_codec.specs.declared.wire_map.TheConstants.{MAX_ELEMENTS}
 use Rattle.map_codec.specs.Element.{nulls}
-use Rattle.sched_calls.specs.FlowSpec.{rate_of, burst_of, interval_frames, jitter_slots}
-use Rattle.flow_book.specs.Flows.{LiveFlow, granted, in_period}
+use Rattle.sched_calls.specs.FlowSpec.{rate_of, burst_of, peak_of, interval_frames, jitter_slots}
+use Rattle.sched_calls.specs.declared.spec.TheConstants.{PEAK_BURST}
+use Rattle.flow_book.specs.Flows.{LiveFlow, granted, in_period, in_peak_period}
 use Rattle.flow_book.specs.Ceiling.{KeepsCeiling}
 use Rattle.periodic.specs.Placement.{Placed, phase_of, offset_of}
 use Rattle.sched_calls.specs.declared.frame_map.FrameMap.{FrameMap}
@@ -35,6 +36,10 @@ IsWithinAsked f = granted f ≤ f.asked
 -- the flow's grants in the present period of its ceiling keep its rate and burst over every window
 abbrev pub IsWithinRate : Config → LiveFlow → Type 0
 IsWithinRate c f = KeepsCeiling c (rate_of f.spec) (burst_of f.spec) (in_period f)
+
+-- the flow's grants in the present period of its peak rate keep that, and the burst of one, over every window
+abbrev pub IsWithinPeak : Config → LiveFlow → Type 0
+IsWithinPeak c f = KeepsCeiling c (peak_of f.spec) PEAK_BURST (in_peak_period f)
 
 -- each element begins before the next
 abbrev pub OffsetsAscend : List Element → Type 0
@@ -112,6 +117,7 @@ SettlesInTime c before reply = Unit {0}
 pub record HoldsAfter (c : Config) (h : List Entry) : Type 0 where
   pub within_asked : AllByRecursion IsWithinAsked (flows_of c h)
   pub within_rate : AllByRecursion (IsWithinRate c) (flows_of c h)
+  pub within_peak : AllByRecursion (IsWithinPeak c) (flows_of c h)
   pub orderly : AllByRecursion (IsOrderly c) (maps_of h)
   pub starts_ascend : StartsAscend c (maps_of h)
   pub on_time :

@@ -11,7 +11,7 @@ use Rattle.flow_book.specs.declared.flow.Grant.{Grant}
 use Rattle.flow_book.specs.declared.batches.Batches.{Batches}
 use Rattle.flow_book.specs.Batches.{no_batches, with_request}
 use Rattle.flow_book.specs.Flows.{LiveFlow, bytes_of}
-use Rattle.flow_book.specs.Book.{has_ceiling_of}
+use Rattle.flow_book.specs.Book.{has_ceiling_of, has_peak_of}
 use Rattle.sched_calls.specs.declared.placement.Placement.{Placement}
 use Rattle.periodic.specs.Placement.{count_from, Placed}
 use Rattle.sched_calls.specs.declared.frame_map.FrameMap.{FrameMap}
@@ -129,22 +129,26 @@ abbrev pub given_after : ℕ → Admission → List Entry → Admission
 given_after sid first entries =
     option_map_or (λ found. found.said) (latest (λ e. change_by sid e.call e.reply) entries) first
 
--- a change gives a flow of these parameters another ceiling
-abbrev pub changes_ceiling : ℕ → FlowSpec → Entry → Bool
-changes_ceiling sid spec e =
-    option_map_or (λ a. not (has_ceiling_of spec a.spec)) (change_by sid e.call e.reply) false
+-- a change gives a flow of these parameters another ceiling: that of its rate and burst, or that of its peak rate, as
+-- this tells whether two flows have the same
+abbrev pub changes_ceiling : (FlowSpec → FlowSpec → Bool) → ℕ → FlowSpec → Entry → Bool
+changes_ceiling same sid spec e = option_map_or (λ a. not (same spec a.spec)) (change_by sid e.call e.reply) false
 
 -- the entries of a life after the latest change that gave it another ceiling, all where there was none: these follow
 -- those before, by which the flow has these parameters
-abbrev pub period_after : ℕ → Admission → List Entry → List Entry → List Entry
-period_after sid given period [] = period
-period_after sid given period (e ∷ entries) =
-    if changes_ceiling sid given.spec e then period_after sid (given_after sid given (e ∷ [])) [] entries
-    else period_after sid (given_after sid given (e ∷ [])) (period ++ e ∷ []) entries
+abbrev pub period_after : (FlowSpec → FlowSpec → Bool) → ℕ → Admission → List Entry → List Entry → List Entry
+period_after same sid given period [] = period
+period_after same sid given period (e ∷ entries) =
+    if changes_ceiling same sid given.spec e then period_after same sid (given_after sid given (e ∷ [])) [] entries
+    else period_after same sid (given_after sid given (e ∷ [])) (period ++ e ∷ []) entries
 
 -- the entries of a life in the present period of its ceiling
-abbrev pub period_of : ℕ → Life → List Entry
-period_of sid life = period_after sid life.admission [] life.since
+abbrev pub period_of : (FlowSpec → FlowSpec → Bool) → ℕ → Life → List Entry
+period_of same sid life = period_after same sid life.admission [] life.since
+
+-- how many data grants of a life came before that
+abbrev pub earlier_in : (FlowSpec → FlowSpec → Bool) → ℕ → Life → ℕ
+earlier_in same sid life = length (grants_since sid (up_to life.since (period_of same sid life)))
 
 -- whether an unsolicited flow rests from an entry on: while nothing says so it does not
 abbrev pub rest_by : ℕ → Call → Reply → Option Bool
@@ -170,7 +174,8 @@ flow_in_life c sid life =
       asked = asked_in c sid life.since;
       batches = batches_in c sid life.since;
       grants = grants_since sid life.since;
-      earlier = length (grants_since sid (up_to life.since (period_of sid life)));
+      earlier = earlier_in has_ceiling_of sid life;
+      peak_earlier = earlier_in has_peak_of sid life;
     }
 
 -- the placed flow that a life is

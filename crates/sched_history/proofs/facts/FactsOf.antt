@@ -8,7 +8,7 @@ use Rattle.sched_history.specs.Facts.{HoldsAfter, FollowsAlways}
 use Rattle.sched_history.proofs.steps.LegalHistories.{EachAfter-take}
 use Rattle.sched_history.proofs.time.NextFrames.{starts_ascend}
 use Rattle.sched_history.proofs.time.AckTimes.{heard_after}
-use Rattle.sched_history.proofs.facts.SoundLives.{within_asked, within_rate}
+use Rattle.sched_history.proofs.facts.SoundLives.{within_asked, within_rate, within_peak}
 use Rattle.sched_history.proofs.facts.OnTime.{on_time}
 use Rattle.sched_history.proofs.facts.Orderly.{orderly}
 use Rattle.sched_history.proofs.facts.Ranging.{ranging}
@@ -19,6 +19,7 @@ pub holds_after : (c : Config) (h : List Entry) → IsLawful c → IsLegal c h �
 holds_after c h lawful legal = record {
   within_asked = within_asked c h legal;
   within_rate = within_rate c h legal;
+  within_peak = within_peak c h legal;
   orderly = orderly c lawful h legal;
   starts_ascend = starts_ascend c h legal;
   on_time = on_time c lawful h legal;

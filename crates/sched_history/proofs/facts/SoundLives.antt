@@ -1,4 +1,4 @@
--- The live flows of a legal history: each was granted at most what it asked, within its rate ceiling.
+-- The live flows of a legal history: each was granted at most what it asked, within its ceilings.
 use Rattle.std.proofs.Common.{◌≡◌, ℕ, ◌+◌, ◌≤◌, Bool, true, false, not, if◌then◌else◌, List, [], ◌∷◌, ◌++◌, length}
 use Rattle.std.proofs.Common.{drop, Option, None}
 use Rattle.std.proofs.Common.{Some, refl, sym, ap, ◌∙◌, subst, Contains, arith}
@@ -9,10 +9,11 @@ use Rattle.std.proofs.lemmas.List.{append-nil, drop_all}
 use Rattle.minislots.specs.declared.config.Config.{Config}
 use Rattle.flow_book.specs.declared.batches.Batches.{Batches}
 use Rattle.sched_calls.specs.declared.spec.FlowSpec.{FlowSpec}
-use Rattle.sched_calls.specs.FlowSpec.{rate_of, burst_of}
+use Rattle.sched_calls.specs.FlowSpec.{rate_of, burst_of, peak_of}
+use Rattle.sched_calls.specs.declared.spec.TheConstants.{PEAK_BURST}
 use Rattle.flow_book.specs.declared.flow.Grant.{Grant}
 use Rattle.flow_book.specs.Flows.{LiveFlow, granted}
-use Rattle.flow_book.specs.Book.{has_ceiling_of}
+use Rattle.flow_book.specs.Book.{has_ceiling_of, has_peak_of}
 use Rattle.flow_book.specs.Ceiling.{KeepsCeiling}
 use Rattle.flow_book.specs.Entry.{IsSoundFlow}
 use Rattle.sched_calls.specs.declared.frame_map.FrameMap.{FrameMap}
@@ -29,7 +30,7 @@ use Rattle.sched_history.specs.Life.{Life, life_of, flow_in_life, sids, flows_of
 use Rattle.sched_history.specs.Time.{next_after, ack_after}
 use Rattle.sched_history.specs.Reserves.{header_after}
 use Rattle.sched_history.specs.History.{demand_after, IsNextMap, map_by, IsStep, IsLegal}
-use Rattle.sched_history.specs.Facts.{IsWithinAsked, IsWithinRate}
+use Rattle.sched_history.specs.Facts.{IsWithinAsked, IsWithinRate, IsWithinPeak}
 use Rattle.sched_history.proofs.steps.LegalHistories as legal
 use Rattle.sched_history.proofs.steps.LegalHistories.{change_by_step, legal_induction}
 use Rattle.sched_history.proofs.lives.LivesAfter.{with_since, life_of-stays, life_of-begins, life_of-ends}
@@ -70,29 +71,35 @@ within-then : (o : Option ℕ) (granted asked more : ℕ) → granted ≤ asked
 within-then None granted asked more le = omega (arith, le)
 within-then (Some bytes) granted asked more le = omega arith
 
-same-ceiling : (spec other : FlowSpec) → has_ceiling_of spec other ≡ true
-    → (rate_of spec ≡ rate_of other) × (burst_of spec ≡ burst_of other)
-same-ceiling spec other same = (grind (arith, nat_tests), grind (arith, nat_tests))
+-- flows that are the same by the test have this rate and burst in common
+abbrev AreCommon : (FlowSpec → FlowSpec → Bool) → (FlowSpec → ℕ) → (FlowSpec → ℕ) → Type 0
+AreCommon same rate burst =
+    (spec other : FlowSpec) → same spec other ≡ true → (rate spec ≡ rate other) × (burst spec ≡ burst other)
 
--- the grants of a flow keep the ceiling of its parameters, of which so many came before its period
-abbrev Keeps : Config → List Grant → FlowSpec → ℕ → Type 0
-Keeps c grants spec earlier = KeepsCeiling c (rate_of spec) (burst_of spec) (drop earlier grants)
+ceilings-common : AreCommon has_ceiling_of rate_of burst_of
+ceilings-common spec other same = (grind (arith, nat_tests), grind (arith, nat_tests))
 
-keeps-given : (c : Config) (grants : List Grant) (spec other : FlowSpec) (earlier : ℕ) (same : Bool)
-    → has_ceiling_of spec other ≡ same → Keeps c grants spec earlier
-    → Keeps c grants other (if not same then length grants else earlier)
-keeps-given c grants spec other earlier true is keeps =
-    let ceiling = same-ceiling spec other is in rw (← ceiling.0, ← ceiling.1) keeps
-keeps-given c grants spec other earlier false is keeps =
-    rw (drop_all (length grants) grants (omega arith)) (λ some i j le within. absurd (omega arith))
+peaks-common : AreCommon has_peak_of peak_of (λ spec. PEAK_BURST)
+peaks-common spec other same = (grind (arith, nat_tests), refl)
 
-keeps-then : (c : Config) (grants : List Grant) (spec : FlowSpec) (earlier : ℕ) (o : Option Admission)
-    → Keeps c grants spec earlier
-    → Keeps c grants (option_map_or (λ a. a.spec) o spec)
-    (if option_map_or (λ a. not (has_ceiling_of spec a.spec)) o false then length grants else earlier)
-keeps-then c grants spec earlier None keeps = keeps
-keeps-then c grants spec earlier (Some a) keeps =
-    keeps-given c grants spec a.spec earlier (has_ceiling_of spec a.spec) refl keeps
+module _ (c : Config) (same : FlowSpec → FlowSpec → Bool) (rate burst : FlowSpec → ℕ)
+    (common : AreCommon same rate burst) (grants : List Grant) where
+  -- the grants of a flow keep the ceiling of its parameters, of which so many came before its period
+  abbrev Keeps : FlowSpec → ℕ → Type 0
+  Keeps spec earlier = KeepsCeiling c (rate spec) (burst spec) (drop earlier grants)
+
+  keeps-given : (spec other : FlowSpec) (earlier : ℕ) (stays : Bool) → same spec other ≡ stays → Keeps spec earlier
+      → Keeps other (if not stays then length grants else earlier)
+  keeps-given spec other earlier true is keeps =
+      let ceiling = common spec other is in rw (← ceiling.0, ← ceiling.1) keeps
+  keeps-given spec other earlier false is keeps =
+      rw (drop_all (length grants) grants (omega arith)) (λ some i j le within. absurd (omega arith))
+
+  keeps-then : (spec : FlowSpec) (earlier : ℕ) (o : Option Admission) → Keeps spec earlier
+      → Keeps (option_map_or (λ a. a.spec) o spec)
+      (if option_map_or (λ a. not (same spec a.spec)) o false then length grants else earlier)
+  keeps-then spec earlier None keeps = keeps
+  keeps-then spec earlier (Some a) keeps = keeps-given spec a.spec earlier (same spec a.spec) refl keeps
 
 begun-then : (begins : Bool) (all earlier : ℕ) → earlier ≤ all → (if begins then all else earlier) ≤ all
 begun-then true all earlier le = omega arith
@@ -106,29 +113,45 @@ sound_then : (c : Config) (f : LiveFlow) (given : Option Admission) (replaced : 
       batches = batches;
       earlier = if option_map_or (λ a. not (has_ceiling_of f.spec a.spec)) given false then length f.grants
           else f.earlier;
+      peak_earlier = if option_map_or (λ a. not (has_peak_of f.spec a.spec)) given false then length f.grants
+          else f.peak_earlier;
     })
 sound_then c f given replaced more batches is = record {
   sound = record {
     within = within-then replaced (granted f) f.asked more is.sound.within;
-    kept = keeps-then c f.grants f.spec f.earlier given is.sound.kept;
+    kept = keeps-then c has_ceiling_of rate_of burst_of ceilings-common f.grants f.spec f.earlier given is.sound.kept;
+    peak_kept = keeps-then c has_peak_of peak_of (λ spec. PEAK_BURST) peaks-common f.grants f.spec f.peak_earlier given
+        is.sound.peak_kept;
   };
-  begun = begun-then (option_map_or (λ a. not (has_ceiling_of f.spec a.spec)) given false) (length f.grants) f.earlier
-      is.begun;
+  begun = record {
+    sustained = begun-then (option_map_or (λ a. not (has_ceiling_of f.spec a.spec)) given false) (length f.grants)
+        f.earlier is.begun.sustained;
+    peak = begun-then (option_map_or (λ a. not (has_peak_of f.spec a.spec)) given false) (length f.grants)
+        f.peak_earlier is.begun.peak;
+  };
 }
 
 -- a flow whose grants a MAP has more of is sound
 sound_more : (c : Config) (f : LiveFlow) (more : ℕ) (batches : Batches) → IsSoundLife c f
     → IsSoundLife c (record f { asked = f.asked + more; batches = batches })
 sound_more c f more batches is = record {
-  sound = record { within = omega (arith, is.sound.within); kept = is.sound.kept };
-  begun = is.begun;
+  sound = record {
+    within = omega (arith, is.sound.within);
+    kept = is.sound.kept;
+    peak_kept = is.sound.peak_kept;
+  };
+  begun = record { sustained = is.begun.sustained; peak = is.begun.peak };
 }
 
 -- a flow without grants is sound
 sound_new : (c : Config) (sid : ℕ) (life : Life) → life.since ≡ [] → IsSoundLife c (flow_in_life c sid life)
 sound_new c sid life new = rw new (record {
-  sound = record { within = omega arith; kept = λ some i j le within. absurd (omega arith) };
-  begun = omega arith;
+  sound = record {
+    within = omega arith;
+    kept = λ some i j le within. absurd (omega arith);
+    peak_kept = λ some i j le within. absurd (omega arith);
+  };
+  begun = record { sustained = omega arith; peak = omega arith };
 })
 
 ungranted : (sid : ℕ) (reply : Reply) → map_by reply ≡ None → grants_by sid reply ≡ []
@@ -227,3 +250,8 @@ module _ (c : Config) where
   pub within_rate : (h : List Entry) → IsLegal c h → AllByRecursion (IsWithinRate c) (flows_of c h)
   within_rate h legal = all-chosen (IsWithinRate c) (λ sid. option_map (flow_in_life c sid) (life_of sid h)) sids
       (λ sid f is. (flow_sound h sid f legal is).kept)
+
+  -- and its peak rate
+  pub within_peak : (h : List Entry) → IsLegal c h → AllByRecursion (IsWithinPeak c) (flows_of c h)
+  within_peak h legal = all-chosen (IsWithinPeak c) (λ sid. option_map (flow_in_life c sid) (life_of sid h)) sids
+      (λ sid f is. (flow_sound h sid f legal is).peak_kept)

@@ -10,7 +10,7 @@ use Rattle.flow_book.specs.declared.flow.Grant.{Grant}
 use Rattle.flow_book.specs.declared.batches.Batches.{Batches}
 use Rattle.flow_book.specs.Batches.{no_batches}
 use Rattle.flow_book.specs.Flows.{LiveFlow, bytes_of, granted}
-use Rattle.flow_book.specs.Book.{has_ceiling_of}
+use Rattle.flow_book.specs.Book.{has_ceiling_of, has_peak_of}
 use Rattle.sched_calls.specs.declared.spec.FlowSpec.{FlowSpec}
 use Rattle.sched_calls.specs.declared.placement.Placement.{Placement}
 use Rattle.periodic.specs.Placement.{Placed}
@@ -22,8 +22,8 @@ use Rattle.sched_calls.specs.declared.reply.Entry.{Entry}
 use Rattle.sched_history.specs.Latest.{Found, up_to, latest}
 use Rattle.sched_history.specs.Life.{Admission, turn_by, Life, life_of, added_by, added_in, replaced_by, asked_in}
 use Rattle.sched_history.specs.Life.{grants_by, grants_since, batches_by, batches_after, batches_in, change_by}
-use Rattle.sched_history.specs.Life.{given_after, given_in, changes_ceiling, period_after, period_of, rest_by, rests_in}
-use Rattle.sched_history.specs.Life.{flow_in_life, placed_in_life, sids, flows_of, table_of}
+use Rattle.sched_history.specs.Life.{given_after, given_in, changes_ceiling, period_after, period_of, earlier_in}
+use Rattle.sched_history.specs.Life.{rest_by, rests_in, flow_in_life, placed_in_life, sids, flows_of, table_of}
 use Rattle.sched_history.proofs.lists.Latests.{with_after, latest-says, latest-silent, or_else, said-push, said-cons}
 use Rattle.sched_history.proofs.lists.Latests.{up_to-push, up_to-none}
 use Rattle.sched_history.proofs.lives.LivesAfter.{with_since, life_of-stays}
@@ -40,8 +40,8 @@ asked_then c sid e asked granted = option_map_or (λ bytes. granted + bytes) (re
     (asked + added_by c sid e.call e.reply)
 
 -- how many grants came before the period of a ceiling after an entry, of a flow that had so many in all
-abbrev pub earlier_then : ℕ → Entry → FlowSpec → ℕ → ℕ → ℕ
-earlier_then sid e spec earlier all = if changes_ceiling sid spec e then all else earlier
+abbrev pub earlier_then : (FlowSpec → FlowSpec → Bool) → ℕ → Entry → FlowSpec → ℕ → ℕ → ℕ
+earlier_then same sid e spec earlier all = if changes_ceiling same sid spec e then all else earlier
 
 -- a live flow with what an entry asks for it, grants to it and gives to it
 abbrev pub grown_by : Config → Entry → LiveFlow → LiveFlow
@@ -50,7 +50,8 @@ grown_by c e f = record f {
   asked = asked_then c f.sid e f.asked (granted f);
   batches = batches_by c f.sid e.call e.reply f.batches f.asked (granted f);
   grants = f.grants ++ grants_by f.sid e.reply;
-  earlier = earlier_then f.sid e f.spec f.earlier (length f.grants);
+  earlier = earlier_then has_ceiling_of f.sid e f.spec f.earlier (length f.grants);
+  peak_earlier = earlier_then has_peak_of f.sid e f.spec f.peak_earlier (length f.grants);
 }
 
 -- the grants in these entries and one more
@@ -147,25 +148,27 @@ either-period true false xs ys e = refl
 either-period false true xs ys e = refl
 either-period false false xs ys e = refl
 
--- the period of a ceiling after some entries and one more
-period_after-push : (sid : ℕ) (given : Admission) (period entries : List Entry) (e : Entry)
-    → period_after sid given period (entries ++ e ∷ [])
-    ≡ (if changes_ceiling sid (given_after sid given entries).spec e then []
-    else period_after sid given period entries ++ e ∷ [])
-period_after-push sid given period [] e = refl
-period_after-push sid given period (d ∷ entries) e =
-    let next = given_after sid given (d ∷ []) in
-    let same : given_after sid given (d ∷ entries) ≡ given_after sid next entries =
-    said-cons (λ x. change_by sid x.call x.reply) given d entries
-    ∙ ap (λ g. given_after sid g entries) (sym (said-cons (λ x. change_by sid x.call x.reply) given d [])) in
-    rw (same, period_after-push sid next [] entries e, period_after-push sid next (period ++ d ∷ []) entries e)
-    (either-period (changes_ceiling sid given.spec d) (changes_ceiling sid (given_after sid next entries).spec e)
-    (period_after sid next [] entries) (period_after sid next (period ++ d ∷ []) entries) e)
+module _ (same : FlowSpec → FlowSpec → Bool) where
+  -- the period of a ceiling after some entries and one more
+  period_after-push : (sid : ℕ) (given : Admission) (period entries : List Entry) (e : Entry)
+      → period_after same sid given period (entries ++ e ∷ [])
+      ≡ (if changes_ceiling same sid (given_after sid given entries).spec e then []
+      else period_after same sid given period entries ++ e ∷ [])
+  period_after-push sid given period [] e = refl
+  period_after-push sid given period (d ∷ entries) e =
+      let next = given_after sid given (d ∷ []) in
+      let gives : given_after sid given (d ∷ entries) ≡ given_after sid next entries =
+      said-cons (λ x. change_by sid x.call x.reply) given d entries
+      ∙ ap (λ g. given_after sid g entries) (sym (said-cons (λ x. change_by sid x.call x.reply) given d [])) in
+      rw (gives, period_after-push sid next [] entries e, period_after-push sid next (period ++ d ∷ []) entries e)
+      (either-period (changes_ceiling same sid given.spec d)
+      (changes_ceiling same sid (given_after sid next entries).spec e)
+      (period_after same sid next [] entries) (period_after same sid next (period ++ d ∷ []) entries) e)
 
-changes-ungranted : (sid : ℕ) (spec : FlowSpec) (e : Entry) (o : Option Admission) → change_by sid e.call e.reply ≡ o
-    → option_map_or (λ a. not (has_ceiling_of spec a.spec)) o false ≡ true → grants_by sid e.reply ≡ []
-changes-ungranted sid spec e None is changes = absurd cc
-changes-ungranted sid spec e (Some a) is changes = changed-ungranted sid e.call e.reply a is
+  changes-ungranted : (sid : ℕ) (spec : FlowSpec) (e : Entry) (o : Option Admission) → change_by sid e.call e.reply ≡ o
+      → option_map_or (λ a. not (same spec a.spec)) o false ≡ true → grants_by sid e.reply ≡ []
+  changes-ungranted sid spec e None is changes = absurd cc
+  changes-ungranted sid spec e (Some a) is changes = changed-ungranted sid e.call e.reply a is
 
 earlier-by : (sid : ℕ) (since period : List Entry) (e : Entry) (begins : Bool)
     → (begins ≡ true → grants_by sid e.reply ≡ [])
@@ -178,15 +181,14 @@ earlier-by sid since period e true ungranted =
 earlier-by sid since period e false ungranted =
     ap (λ xs. length (grants_since sid xs)) (up_to-push since period e)
 
-earlier-more : (sid : ℕ) (e : Entry) (life : Life)
-    → length (grants_since sid (up_to (life.since ++ e ∷ []) (period_of sid (with_since e life))))
-    ≡ earlier_then sid e (given_in sid life).spec (length (grants_since sid (up_to life.since (period_of sid life))))
-    (length (grants_since sid life.since))
-earlier-more sid e life =
+earlier-more : (same : FlowSpec → FlowSpec → Bool) (sid : ℕ) (e : Entry) (life : Life)
+    → earlier_in same sid (with_since e life)
+    ≡ earlier_then same sid e (given_in sid life).spec (earlier_in same sid life) (length (grants_since sid life.since))
+earlier-more same sid e life =
     ap (λ xs. length (grants_since sid (up_to (life.since ++ e ∷ []) xs)))
-    (period_after-push sid life.admission [] life.since e)
-    ∙ earlier-by sid life.since (period_of sid life) e (changes_ceiling sid (given_in sid life).spec e)
-    (changes-ungranted sid (given_in sid life).spec e (change_by sid e.call e.reply) refl)
+    (period_after-push same sid life.admission [] life.since e)
+    ∙ earlier-by sid life.since (period_of same sid life) e (changes_ceiling same sid (given_in sid life).spec e)
+    (changes-ungranted same sid (given_in sid life).spec e (change_by sid e.call e.reply) refl)
 
 -- what a life has with one entry more
 pub given_in-more : (sid : ℕ) (e : Entry) (life : Life)
@@ -204,7 +206,8 @@ flow_in_life-more c sid e life =
       asked_in-push c sid life.since e,
       batches_in-push c sid life.since e,
       grants_since-push sid life.since e,
-      earlier-more sid e life,
+      earlier-more has_ceiling_of sid e life,
+      earlier-more has_peak_of sid e life,
     ) refl
 
 grown-map : (c : Config) (sid : ℕ) (e : Entry) (o : Option Life)
@@ -298,6 +301,8 @@ same_flow : (f : LiveFlow) (change : Option Admission) (replaced : Option ℕ) (
       grants = f.grants ++ grants;
       earlier = if option_map_or (λ a. not (has_ceiling_of f.spec a.spec)) change false then length f.grants
           else f.earlier;
+      peak_earlier = if option_map_or (λ a. not (has_peak_of f.spec a.spec)) change false then length f.grants
+          else f.peak_earlier;
     } ≡ f
 same_flow f change replaced added batches grants unchanged unreplaced none same nothing =
     let more : f.asked + added ≡ f.asked = omega arith in

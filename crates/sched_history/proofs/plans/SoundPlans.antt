@@ -1,16 +1,17 @@
--- A plan's data grants keep each flow within what it asked and within its rate ceiling.
-use Rattle.std.proofs.Common.{◌≡◌, ℕ, ◌+◌, ◌≤◌, Bool, true, false, ◌==◌, List, [], ◌∷◌, ◌++◌, length, None}
-use Rattle.std.proofs.Common.{Some, refl, sym, ap, ◌∙◌, subst, Contains, append_assoc, arith}
+-- A plan's data grants keep each flow within what it asked and within its ceilings.
+use Rattle.std.proofs.Common.{◌≡◌, ℕ, ◌+◌, Bool, true, false, ◌==◌, List, [], ◌∷◌, ◌++◌, None}
+use Rattle.std.proofs.Common.{Some, refl, sym, ap, ◌∙◌, subst, Contains, append_assoc}
 use Rattle.std.proofs.lemmas.Bool.{eqb-true}
-use Rattle.std.proofs.lemmas.List.{append-nil, length_push}
+use Rattle.std.proofs.lemmas.List.{append-nil}
 use Rattle.std.proofs.lemmas.List.Elements.{filter_map-append}
-use Rattle.std.proofs.lemmas.List.Sums.{sum_by_push}
 use Rattle.minislots.specs.declared.config.Config.{Config}
 use Rattle.flow_book.specs.declared.flow.Grant.{Grant}
 use Rattle.flow_book.specs.Flows.{LiveFlow, with_grant}
 use Rattle.flow_book.specs.Choice.{IsAmount}
 use Rattle.flow_book.specs.Entry.{IsSoundFlow}
-use Rattle.flow_book.proofs.Periods.{period-more}
+use Rattle.flow_book.specs.Limits.{HasPeriods}
+use Rattle.flow_book.proofs.Changes.{granted-sound}
+use Rattle.flow_book.proofs.Periods.{periods-more}
 use Rattle.map_build.specs.declared.purpose.Allocation.{Allocation}
 use Rattle.map_build.specs.declared.purpose.Purpose.{Purpose}
 use Rattle.map_build.specs.declared.purpose.Purpose.TheVariants.{DataGrant}
@@ -19,28 +20,18 @@ use Rattle.map_build.specs.Purpose.{grant_to}
 use Rattle.map_build.specs.Plan.{Demand, flow_after, flows_after, room_at, IsOfClass, Stands}
 use Rattle.sched_history.proofs.lists.Members.{IsImage, Contains-map}
 
--- A flow is sound, and its grants before the present period of its ceiling are some of its first
+-- A flow is sound, and its grants before the present period of each of its ceilings are some of its first
 pub record IsSoundLife (c : Config) (f : LiveFlow) : Type 0 where
   pub sound : IsSoundFlow c f
-  pub begun : f.earlier ≤ length f.grants
+  pub begun : HasPeriods f
 
 -- a flow is sound with a grant more of the amount
 sound_with : (c : Config) (f : LiveFlow) (start room bytes : ℕ) → IsSoundLife c f → IsAmount c f start room bytes
     → IsSoundLife c (with_grant (record { start = start; bytes = bytes }) f)
-sound_with c f start room bytes is amount =
-    let g : Grant = record { start = start; bytes = bytes } in
-    record {
-      sound = record {
-        within = omega (
-          arith,
-          sum_by_push (λ (g : Grant). g.bytes) f.grants g,
-          is.sound.within,
-          amount.allowed.asked,
-        );
-        kept = rw (period-more f g is.begun) amount.allowed.taken.ceiling;
-      };
-      begun = omega (arith, length_push f.grants g, is.begun);
-    }
+sound_with c f start room bytes is amount = record {
+  sound = granted-sound c start bytes room f is.sound is.begun amount.allowed;
+  begun = periods-more f (record { start = start; bytes = bytes }) is.begun;
+}
 
 -- a flow after one allocation more, that grants it nothing, or a grant
 after_other : (start : ℕ) (before : List Allocation) (a : Allocation) (f : LiveFlow)

@@ -21,7 +21,7 @@ use Rattle.map_build.specs.declared.met.Met.{Met}
 use Rattle.map_build.specs.Reading.{meets_place, met_in}
 use Rattle.sched_history.specs.Reserves.{reserves_of, waiting_in, met_after}
 use Rattle.sched_history.specs.Ranging.{StandsIn}
-use Rattle.sched_history.specs.Facts.{IsWithinAsked, IsWithinRate, OffsetsAscend, IsOnTime, HoldsAfter}
+use Rattle.sched_history.specs.Facts.{IsWithinAsked, IsWithinRate, IsWithinPeak, OffsetsAscend, IsOnTime, HoldsAfter}
 use Rattle.sched_history.proofs.lives.LiveFlows.{flows_of-one, table_of-one, table_of-none}
 use Rattle.sched_history.proofs.rows.TwoMaps.{entry, built, admitted, asked, granted, two_maps_of_one_flow}
 use Rattle.sched_history.proofs.facts.FactsOf.{holds_after}
@@ -63,6 +63,27 @@ a_grant_past_the_ceiling_is_refused holds =
     (λ sid other. rw (ne_eqb 17 sid (λ e. other (sym e)))) in
     let fact : AllByRecursion (IsWithinRate base)
     (flow_in_life base 17 limited_life ∷ []) = rw flows at holds.within_rate in
+    absurd (omega (arith, fact.0 (lit< tt) 0 0 (lit≤ tt) (lit< tt)))
+
+-- a flow with a peak rate and no ceiling that asks for 2000 bytes, and a grant of more than a frame of Ethernet to it
+abbrev at_once : List Entry
+at_once = entry 2 (Ask 0 17 (Bytes 2000) 801) Taken ∷ entry 3 (Build 800) (Built (base_map 840 800
+    (element 0x3fff 1 0 ∷ element 17 6 4 ∷ element 0 7 40 ∷ []) (0 ∷ 1523 ∷ 0 ∷ []))) ∷ []
+
+abbrev peaking : List Entry
+peaking = entry 1 (Admit 17 (BestEffort 3 0 0 64000)) (Admitted None) ∷ at_once
+
+abbrev peaking_life : Life
+peaking_life = record { admission = record { spec = BestEffort 3 0 0 64000; placement = None }; since = at_once }
+
+-- is past its peak rate
+pub a_grant_past_the_peak_is_refused : HoldsAfter base peaking → ⊥
+a_grant_past_the_peak_is_refused holds =
+    let flows : flows_of base peaking ≡ flow_in_life base 17 peaking_life ∷ [] =
+    flows_of-one base peaking 17 peaking_life (lit≤ tt) (lit≤ tt) refl
+    (λ sid other. rw (ne_eqb 17 sid (λ e. other (sym e)))) in
+    let fact : AllByRecursion (IsWithinPeak base)
+    (flow_in_life base 17 peaking_life ∷ []) = rw flows at holds.within_peak in
     absurd (omega (arith, fact.0 (lit< tt) 0 0 (lit≤ tt) (lit< tt)))
 
 -- the second MAP with its idle at the start of its grant

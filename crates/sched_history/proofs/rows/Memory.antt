@@ -56,10 +56,10 @@ module _ (c : Config) (h : List Entry) where
       never lacks.takes.0 lacks.takes.1
 
   -- a polled flow without a place takes no memory
-  pub a_polled_admission_without_a_place_lacks_no_memory : (sid interval jitter rate burst : ℕ)
+  pub a_polled_admission_without_a_place_lacks_no_memory : (sid interval jitter rate burst peak : ℕ)
       → NoPlacement c (table_of h) (Polled interval jitter rate burst peak) (next_after c h)
       → MayLackMemory c h (Admit sid (Polled interval jitter rate burst peak)) → ⊥
-  a_polled_admission_without_a_place_lacks_no_memory sid interval jitter rate burst never lacks =
+  a_polled_admission_without_a_place_lacks_no_memory sid interval jitter rate burst peak never lacks =
       never lacks.takes.0 lacks.takes.1
 
   -- nor any call that a test refuses
