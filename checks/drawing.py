@@ -237,13 +237,16 @@ class Drawing:
         return {"call": "reserve", "usage": usage, **to, "slots": slots}
 
     def sid_for(self, usage):
-        """Whom an opportunity goes to: a modem whose flow lives or not; requests may go to those of a priority or all.
-        """
+        """Whom an opportunity goes to: a modem whose flow lives or not; requests may go to those of a priority or all,
+        and go often to a modem whose flow rests."""
         drawn = self.draw.random()
         if drawn < 0.15:
             return self.draw.choice(EDGES)
         if usage == "request" and drawn < 0.5:
             return self.draw.choice([*PRIORITIES, *[ALL_MODEMS] * 300])
+        resting = [sid for sid, flow in self.plain.flows.items() if flow.rests]
+        if usage == "request" and resting and drawn < 0.75:
+            return self.draw.choice(resting)
         return self.sid(self.draw.random() < 0.5)
 
     def header(self):
