@@ -1,10 +1,21 @@
 -- With the request region alone the draft has the plan of nothing.
-use Rattle.std.proofs.Common.{◌≡◌, ℕ, ◌∙◌, ap, subst}
+use Rattle.std.proofs.Common.{◌≡◌, ℕ, ◌+◌, ◌<◌, ◌∙◌, ap, subst, arith}
 use Rattle.minislots.specs.Config.{IsLawful}
+use Rattle.minislots.proofs.Bounds.{bounds_of}
 use Rattle.map_build.specs.Draft.{Puts}
 use Rattle.map_build.specs.Plan.{demand_at}
 use Rattle.map_build.proofs.Begun.{HasPlan-begun}
 use Rattle.map_build.proofs.draft.Draft.open.Goals as goal
+
+pub overflow_cast-requests : goal.overflow_cast-requests
+overflow_cast-requests c =
+    let bounds = bounds_of c.config.result.now c.req_slots-requests.ensures.lawful in
+    omega (arith, bounds.frame_most, c.req_slots-requests.ensures.fits)
+
+pub put_slots-requires : goal.put_slots-requires
+put_slots-requires c =
+    let bounds = bounds_of c.config.result.now c.req_slots-requests.ensures.lawful in
+    omega (arith, bounds.frame_most, c.req_slots-requests.ensures.fits, c.in_ok-draft.ensures.offset)
 
 pub returns : goal.returns
 returns c = λ spots waiting are.
