@@ -26,7 +26,8 @@ module _ (c : Config) (h : List Entry) where
   admitted : (spec : FlowSpec) (reply : Reply) → AnswersAdmit c h spec reply → map_by reply ≡ None
   admitted (Unsolicited size interval jitter grants) reply answers =
       placed (Unsolicited size interval jitter grants) reply answers
-  admitted (Polled interval jitter rate burst peak) reply answers = placed (Polled interval jitter rate burst peak) reply answers
+  admitted (Polled interval jitter rate burst peak) reply answers =
+      placed (Polled interval jitter rate burst peak) reply answers
   admitted (BestEffort priority rate burst peak) reply answers = ap map_by answers
 
   placed_anew : (sid : ℕ) (spec : FlowSpec) (reply : Reply) → PlacesAnew c h sid spec reply → map_by reply ≡ None
