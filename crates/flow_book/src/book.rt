@@ -243,7 +243,7 @@ impl Book {
     }
 
     /// Gives a live flow other parameters, of its kind. What it asked and was granted stays. Another rate or burst
-    /// begins a period of its ceiling, full.
+    /// begins a period of its ceiling, full, and another peak rate one of that.
     pub fn change(&mut self, sid: u16, spec: FlowSpec)
         requires live { IsLive sid self.old.flows }
         requires kind { IfSome (flow_of sid self.old.flows)
@@ -256,7 +256,7 @@ impl Book {
     }
 
     /// The most bytes of a data grant to a live flow at minislot `start`, in `room` minislots: at most
-    /// what is outstanding and the grant cap, under the rate ceiling, in a burst that fits. 0 where no
+    /// what is outstanding and the grant cap, under both ceilings, in a burst that fits. 0 where no
     /// bytes may be granted. The flow's grants start at or before `start`.
     pub fn most(&self, sid: u16, start: u64, room: u32) -> u32
         requires live { IsLive sid self.now.flows }
