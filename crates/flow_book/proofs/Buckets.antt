@@ -119,7 +119,7 @@ level-now b slot within same =
     let none : slot - b.since ≡ 0 = omega arith in
     rw none (omega arith)
 
-same-fields : (x y : BucketView) → x.per_slot ≡ y.per_slot → x.full ≡ y.full → x.level ≡ y.level → x.since ≡ y.since
+pub same-fields : (x y : BucketView) → x.per_slot ≡ y.per_slot → x.full ≡ y.full → x.level ≡ y.level → x.since ≡ y.since
     → x ≡ y
 same-fields x y per full level since =
     ap (λ n. record { per_slot = n; full = x.full; level = x.level; since = x.since }) per

@@ -1,6 +1,6 @@
 -- One flow of a list is changed.
 use Rattle.std.proofs.Common.{◌≡◌, refl, sym, ap, ◌∙◌, ℕ, zero, suc, ◌<◌, ◌==◌, List, [], ◌∷◌, map, length, get_or}
-use Rattle.std.proofs.Common.{◌≤◌, set, if◌then◌else◌, arith}
+use Rattle.std.proofs.Common.{set, if◌then◌else◌, arith}
 use Rattle.std.specs.List.{AllByRecursion}
 use Rattle.std.proofs.lemmas.Bool.Decides.{nat_tests}
 use Rattle.std.proofs.lemmas.List.{map-set, length-map}

@@ -31,6 +31,21 @@ sid-small : (rank : ℕ) (last : Option ℕ) (sid turn : ℕ) → IsTurn rank la
 sid-small rank None sid turn is = is.0
 sid-small rank (Some start) sid turn is = is.0
 
+few-behind : (c : Config) (n : ℕ) (items : List Flow) → AllByRecursion (λ (g : LiveFlow). n < g.sid) (map live items)
+    → Ascend (map live items) → AllByRecursion (KeepsSums c) items → n < 2 ^ 16 → n + length items < 2 ^ 16
+few-behind c n [] above up all lt = omega (arith, lt)
+few-behind c n (f ∷ items) above up all lt =
+    let small = sid-small (rank_of f.spec) (last_start f.grants.items) f.sid f.turn all.0.turn.1 in
+    omega (arith, above.0, few-behind c f.sid items up.0 up.1 all.1 small)
+
+-- there are no more flows than SIDs
+pub few-flows : (c : Config) (items : List Flow) → Ascend (map live items) → AllByRecursion (KeepsSums c) items
+    → length items ≤ 2 ^ 16
+few-flows c [] up all = omega arith
+few-flows c (f ∷ items) up all =
+    let small = sid-small (rank_of f.spec) (last_start f.grants.items) f.sid f.turn all.0.turn.1 in
+    omega (arith, few-behind c f.sid items up.0 up.1 all.1 small)
+
 apart : (a b s t : ℕ) → s < t → t < 2 ^ 16 → number_of a s ≡ number_of b t → ⊥
 apart a b s t lt small same = absurd (omega (arith, same))
 

@@ -18,6 +18,8 @@ use Rattle.flow_book.specs.Queue.{IsAt, IsIn, IsQueue, IsQueueAmong, IsQueueIn, 
 use Rattle.flow_book.specs.Queue.{IsFirstAble, IsOrderIn, IsShortQueue, StandsBehind, AreOnce, served_of}
 use Rattle.flow_book.specs.Queue.{NoneWaitsBefore}
 use Rattle.flow_book.specs.Queue.{still_waits}
+use Rattle.flow_book.specs.Tiers.{HasTier}
+use Rattle.flow_book.specs.declared.tiers.Tier.{Tier}
 use Rattle.flow_book.specs.Parts.{HasStartedIn, IsAheadOf, IsNextIn, IsPutIn, IsPutBack}
 use Rattle.flow_book.proofs.Once.{by-turn-once, once-remove, once-alone}
 use Rattle.flow_book.proofs.Order.{all-implied}
@@ -71,7 +73,7 @@ module _ (items : List Flow) (queue served : List Waiting) (is : IsQueueIn items
   -- one of the queue that is served goes to those served
   pub put-queued : (e : Waiting) (after : List Waiting) → slice_get queue i ≡ Some w → still_waits w ≡ true
       → still_waits e ≡ false → after ≡ with-one waiting served
-      → IsPutIn items waiting served (set queue i e) after
+      → IsPutIn items waiting queue served (set queue i e) after
   put-queued e after here still gone put =
       let lt = slice_get_within queue i w here in
       let read : get_or queue i w ≡ w = get_or_from_slice_get queue i w w here in
@@ -89,6 +91,9 @@ module _ (items : List Flow) (queue served : List Waiting) (is : IsQueueIn items
         among = is.served_ones;
         out = subst (λ k. IsIn k served → ⊥) same out;
         stay = λ place here. inr here;
+        tiered = λ tiers all. all;
+        others_tiered = λ tiers all. subst (AllByRecursion (HasTier items tiers)) left
+            (all-remove (HasTier items tiers) (filter still_waits queue) j.0 all);
         others = subst (IsQueueAmong items (λ place. (IsIn place served → ⊥) × (place ≢ waiting.place))) left
             (subst (λ k. IsQueueAmong items (λ place. (IsIn place served → ⊥) × (place ≢ k))
             (remove (filter still_waits queue) j.0)) at
@@ -98,7 +103,7 @@ module _ (items : List Flow) (queue served : List Waiting) (is : IsQueueIn items
 
   -- and one that was served is put among the others
   pub put-again : (after : List Waiting) → slice_get served i ≡ Some w → after ≡ with-one waiting (remove served i)
-      → IsPutIn items waiting served queue after
+      → IsPutIn items waiting queue served queue after
   put-again after here put =
       let lt = slice_get_within served i w here in
       let read : get_or served i w ≡ w = get_or_from_slice_get served i w w here in
@@ -129,6 +134,8 @@ module _ (items : List Flow) (queue served : List Waiting) (is : IsQueueIn items
               (λ equal. out (subst (λ n. IsIn n served) (sym equal) there)),
             ))
             (λ k both in-it. both.0 (stays k both.1 in-it)) is.others;
+        tiered = λ tiers. all-remove (HasTier items tiers) served i;
+        others_tiered = λ tiers all. all;
         is = put;
       }
 
@@ -152,6 +159,7 @@ put-back items queue i w waiting after is here still same put =
     record {
       others = remove queue i;
       each = all-remove (IsAt items) queue i is.each;
+      tiered = λ tiers. all-remove (HasTier items tiers) queue i;
       once = once-remove queue i is.once;
       new = subst (λ k. AllByRecursion (λ v. v.place ≢ k) (remove queue i)) at (once-alone queue i w lt is.once);
       among = subst (IsQueueAmong items (λ other. other ≢ waiting.place)) j.3
@@ -191,25 +199,28 @@ one-waits queue i w here still =
     let j = kept-index still_waits queue i w lt (ap still_waits read ∙ still) in
     omega (arith, j.1)
 
-module _ (c : Config) (items : List Flow) (queue served : List Waiting) (start room : ℕ)
-    (has : HasStartedIn c items queue served start) where
+module _ (c : Config) (items : List Flow) (tiers : List Tier) (queue served : List Waiting) (start room : ℕ)
+    (has : HasStartedIn c items tiers queue served start) where
   -- the queue is a part
-  pub queued-part : HasStartedPart c items queue start
+  pub queued-part : HasStartedPart c items tiers queue start
   queued-part = record {
     book = has.book;
     ascending = has.order.others.ascending;
     each = has.order.others.each;
+    tiered = has.others;
     started = has.started;
   }
 
   -- and so are those served, up to a place
-  pub served-part : (n : ℕ) → HasStartedPart c items (take n served) start
+  pub served-part : (n : ℕ) → HasStartedPart c items tiers (take n served) start
   served-part n = record {
     book = has.book;
     ascending = ascends-filter (λ w. w.turn) still_waits (take n served)
         (ascends-take (λ w. w.turn) n served has.order.served_ones.ascending);
     each = all-filter (IsAt items) still_waits (take n served)
         (all-parts (IsAt items) n served has.order.served_ones.each).0;
+    tiered = all-filter (HasTier items tiers) still_waits (take n served)
+        (all-parts (HasTier items tiers) n served has.ones).0;
     started = has.started;
   }
 
@@ -274,7 +285,7 @@ module _ (c : Config) (items : List Flow) (queue served : List Waiting) (start r
   queued-next ahead (Some i) first around passed' =
       let w = first.waiting in
       let P = IsNoEarlier c start room items w.turn in
-      let at = kept-of items queue i w first.here first.waits has.order.others.each in
+      let at = kept-of (IsAt items) queue i w first.here first.waits has.order.others.each in
       let late' = kept-parts P still_waits ahead served
       (all-implied (IsPassed c start room items) P (filter still_waits (take ahead served))
       (λ v pass. inl pass) passed')

@@ -14,6 +14,7 @@ pub mod Overlays
 pub mod InParts
 pub mod Passing
 pub mod Pendings
+pub mod PeakRates
 pub mod Periods
 pub mod Places
 pub mod Profile
@@ -26,6 +27,7 @@ pub mod RowsChanges
 pub mod RowsChoice
 pub mod RowsPeak
 pub mod NextServed
+pub mod Numbered
 pub mod Serving
 pub mod InLine
 pub mod InOrder

@@ -19,7 +19,7 @@ use Rattle.flow_book.specs.Queue.{IsAt, IsIn, IsQueue, IsQueueAmong, IsQueueIn, 
 use Rattle.flow_book.specs.Taking.{AreApart, AreMerged}
 use Rattle.flow_book.proofs.InParts.{in-at}
 use Rattle.flow_book.proofs.Order.{all-implied}
-use Rattle.flow_book.proofs.Queues.{with-one, flow-at, turn-at, wants-at, limits-at, knows-at, same-turn}
+use Rattle.flow_book.proofs.Queues.{with-one, flow-at, turn-at, wants-at, sustained-at, tier-at, knows-at, same-turn}
 use Rattle.flow_book.proofs.Queues.{put-among, pass-among}
 use Rattle.sched_calls.proofs.Removal.{all-filter}
 use Rattle.flow_book.proofs.Serving.{pick, all-here, above-back}
@@ -144,7 +144,8 @@ module _ (c : Config) (items : List Flow) (are : IsBook c items) where
         let f = flow-at items w (slice_get items w.place) refl at in
         subst (IsQueueAmong items more) (put-last w queue before)
         (put-among c items are some more queue w.place f.0 f.1 only keeps is w refl (sym (turn-at items w f.0 at f.1))
-        (sym (wants-at items w f.0 at f.1)) (sym (limits-at items w f.0 at f.1)) out new)
+        (sym (wants-at items w f.0 at f.1)) (sym (sustained-at items w f.0 at f.1)) (sym (tier-at items w f.0 at f.1))
+        out new)
     step-cond false idle =
         let f = flow-at items w (slice_get items w.place) refl at in
         let wants = wants-at items w f.0 at f.1 in

@@ -6,18 +6,18 @@ use Rattle.std.specs.List.{AllZip, AllByRecursion}
 use Rattle.std.specs.Option.{IfSome}
 use Rattle.std.proofs.lemmas.Bool.{cases_eq, cond_both}
 use Rattle.std.proofs.lemmas.Bool.Decides.{nat_tests}
-use Rattle.std.proofs.lemmas.List.{length-set, length_push, get_or-set_same}
-use Rattle.std.proofs.lemmas.Option.{slice_get-map, slice_get-get_or, slice_get_within, get_or_from_slice_get}
+use Rattle.std.proofs.lemmas.Option.{slice_get-map, slice_get_within, get_or_from_slice_get}
 use Rattle.minislots.specs.declared.config.Config.{Config}
 use Rattle.minislots.specs.Config.{IsLawful}
 use Rattle.minislots.specs.Units.{bytes_in}
-use Rattle.sched_calls.specs.FlowSpec.{rank_of, rate_of, burst_of}
+use Rattle.sched_calls.specs.FlowSpec.{rank_of}
 use Rattle.flow_book.specs.declared.flow.Flow.{Flow}
 use Rattle.flow_book.specs.declared.flow.Grant.{Grant}
 use Rattle.flow_book.specs.declared.queue.Waiting.{Waiting}
+use Rattle.flow_book.specs.declared.tiers.Tier.{Tier}
+use Rattle.flow_book.specs.declared.tiers.TheConstants.{NO_TIER}
 use Rattle.flow_book.specs.Flows.{LiveFlow, with_grant, outstanding}
-use Rattle.flow_book.specs.Bucket.{HaveStartedBy}
-use Rattle.flow_book.specs.Limits.{HasBegunBy, AreLimitsOf, AreSettled, HaveOneMore, StaySettled, most_in}
+use Rattle.flow_book.specs.Limits.{HasBegunBy, AreLimitsOf, AreSettled, most_in}
 use Rattle.flow_book.specs.Choice.{last_start, IsAmount, HasStartedBy}
 use Rattle.flow_book.specs.Entry.{live, IsBook, IsTurn, KeepsSums}
 use Rattle.flow_book.specs.Book.{changed}
@@ -25,17 +25,20 @@ use Rattle.flow_book.specs.Queue.{entry_of, AreOnce, IsShortQueue, IsAt, IsIn, I
 use Rattle.flow_book.specs.Queue.{still_waits}
 use Rattle.flow_book.specs.declared.parts.Standing.{Standing}
 use Rattle.flow_book.specs.declared.parts.Standing.TheVariants.{Queued, Served}
-use Rattle.flow_book.specs.Parts.{one_at, HasStartedIn, IsNextIn, IsPutIn, IsPutBack, IsPut}
-use Rattle.flow_book.specs.Overlay.{IsSameFlow, IsOverlay}
+use Rattle.flow_book.specs.Parts.{one_at, HasStartedIn, IsNextIn, IsPutIn, IsPutBack, IsPut, IsGranted}
+use Rattle.flow_book.specs.Tiers.{HasTier, limits_in}
+use Rattle.flow_book.specs.Overlay.{IsSameFlow, HaveTiers, IsOverlay}
 use Rattle.flow_book.specs.Taking.{CanBeTaken}
 use Rattle.flow_book.proofs.Amounts.{amount-of_most, most-in-limits}
 use Rattle.flow_book.proofs.Changes.{placed-changed}
 use Rattle.flow_book.proofs.InParts.{served-each, order-none}
 use Rattle.flow_book.proofs.NextServed.{IsFound, found-next, served-book}
 use Rattle.flow_book.proofs.Periods.{periods-more, limits-more, settled-more, begun-by}
-use Rattle.flow_book.proofs.Started.{started-drop}
+use Rattle.flow_book.proofs.PeakRates.{own-tier, other-tier}
 use Rattle.flow_book.proofs.Queues.{with-one, in-new, in-old, in-one, among-as, among-same, among-others, same-but}
-use Rattle.flow_book.proofs.Queues.{all-both, stands-at, put-among, pass-among}
+use Rattle.flow_book.proofs.Queues.{all-both, stands-at, put-among, pass-among, set-here}
+use Rattle.sched_calls.proofs.Insertion.{all-put_in}
+use Rattle.sched_calls.proofs.Removal.{all-filter}
 use Rattle.flow_book.proofs.Once.{all-insert, in-inserted, in-still, once-insert}
 use Rattle.flow_book.proofs.Serving.{StandsIn, stands-at-place, kept-of}
 use Rattle.flow_book.proofs.StillWaiting.{all-at, order-in}
@@ -47,39 +50,60 @@ same-all [] = tt
 same-all (f ∷ flows) = (refl, same-all flows)
 
 -- over a book's flows nothing is granted yet
-pub over-book : (c : Config) (items : List Flow) (is_long : Bool) (queue : List Waiting) (capacity : ℕ) → IsBook c items
-    → IsQueue items queue → HasRoom is_long queue [] capacity
-    → IsOverlay c (map live items) (map live items) is_long queue [] capacity 0
-over-book c items is_long queue capacity book order room = record {
+pub over-book : (c : Config) (items : List Flow) (is_long : Bool) (queue : List Waiting) (tiers : List Tier)
+    (capacity : ℕ) → IsBook c items → IsQueue items queue → AllByRecursion (HasTier items tiers) queue
+    → HasRoom is_long queue [] capacity
+    → IsOverlay c (map live items) (map live items) is_long queue [] tiers capacity 0
+over-book c items is_long queue tiers capacity book order tiered room = record {
   items = items;
   shows = refl;
   book = book;
   order = order-none is_long items queue order;
+  tiered = record {
+    ones = ones-none is_long tiered;
+    others = all-filter (HasTier items tiers) still_waits queue tiered;
+  };
   room = room;
   passed = λ many. tt;
   same = same-all (map live items);
   rest = λ place. inr refl;
 }
+  where
+    ones-none : (b : Bool) → AllByRecursion (HasTier items tiers) queue
+        → AllByRecursion (HasTier items tiers) (served_of b queue [])
+    ones-none true all = tt
+    ones-none false all = all
+
+tiers-served : (b : Bool) (items : List Flow) (tiers : List Tier) (queue served : List Waiting)
+    → IsOrderIn b items queue served → AllByRecursion (HasTier items tiers) (served_of b queue served)
+    → AllByRecursion (HasTier items tiers) served
+tiers-served true items tiers queue served order all = all
+tiers-served false items tiers queue served order all =
+    subst (AllByRecursion (HasTier items tiers)) (sym order.1) tt
 
 -- the grants of an overlay have started where those of its flows have
 pub started-queue : (c : Config) (before flows : List LiveFlow) (is_long : Bool) (queue served : List Waiting)
-    (capacity first start : ℕ)
-    → (o : IsOverlay c before flows is_long queue served capacity first) → AllByRecursion (HasStartedBy start) flows
-    → HasStartedIn c o.items queue served start
-started-queue c before flows is_long queue served capacity first start o started = record {
+    (tiers : List Tier) (capacity first start : ℕ)
+    → (o : IsOverlay c before flows is_long queue served tiers capacity first)
+    → AllByRecursion (HasStartedBy start) flows → HasStartedIn c o.items tiers queue served start
+started-queue c before flows is_long queue served tiers capacity first start o started = record {
   book = o.book;
   order = order-in is_long o.items queue served o.order;
+  ones = tiers-served is_long o.items tiers queue served o.order o.tiered.ones;
+  others = o.tiered.others;
   started = rw o.shows started;
 }
 
 -- the flows of a book can be taken over from those that a MAP served
 pub can-be-taken : (c : Config) (before flows : List LiveFlow) (is_long : Bool) (queue served : List Waiting)
-    (capacity first : ℕ) (old : List Flow) → (o : IsOverlay c before flows is_long queue served capacity first)
-    → IsBook c old → map live old ≡ before → CanBeTaken c old o.items (served_of is_long queue served)
-can-be-taken c before flows is_long queue served capacity first old o book is = record {
+    (tiers : List Tier) (capacity first : ℕ) (old : List Flow)
+    → (o : IsOverlay c before flows is_long queue served tiers capacity first) → IsBook c old → map live old ≡ before
+    → CanBeTaken c old o.items tiers (served_of is_long queue served)
+can-be-taken c before flows is_long queue served tiers capacity first old o book is = record {
   before = book;
   book = o.book;
   each = (served-each is_long o.items queue served o.order).0;
+  tiered = o.tiered.ones;
   once = (served-each is_long o.items queue served o.order).1;
   same = rw (is, o.shows) o.same;
   rest = rw (is, o.shows) o.rest;
@@ -100,15 +124,21 @@ same-changed sid grant (f ∷ before) (g ∷ flows) all = (
 )
 
 -- one of the two parts has a flow
-pub one-stands : (c : Config) (items : List Flow) (queue served : List Waiting) (start : ℕ) (at : Standing)
-    (w : Waiting)
-    → HasStartedIn c items queue served start → one_at at queue served ≡ Some w → still_waits w ≡ true
-    → StandsIn c items start w
-one-stands c items queue served start (Queued i) w has here still =
-    stands-at-place c items start w has.book has.started (kept-of items queue i w here still has.order.others.each)
-one-stands c items queue served start (Served i) w has here still =
-    stands-at-place c items start w has.book has.started
-    (all-at (IsAt items) served i w has.order.served_ones.each here)
+pub one-stands : (c : Config) (items : List Flow) (tiers : List Tier) (queue served : List Waiting) (start : ℕ)
+    (at : Standing) (w : Waiting) → HasStartedIn c items tiers queue served start → one_at at queue served ≡ Some w
+    → still_waits w ≡ true → StandsIn c items tiers start w × HasTier items tiers w
+one-stands c items tiers queue served start (Queued i) w has here still =
+    let tier = kept-of (HasTier items tiers) queue i w here still has.others in (
+      stands-at-place c items tiers start w has.book has.started
+          (kept-of (IsAt items) queue i w here still has.order.others.each) tier,
+      tier,
+    )
+one-stands c items tiers queue served start (Served i) w has here still =
+    let tier = all-at (HasTier items tiers) served i w has.ones here in (
+      stands-at-place c items tiers start w has.book has.started
+          (all-at (IsAt items) served i w has.order.served_ones.each here) tier,
+      tier,
+    )
 
 -- the one that stands where the next stands is the next
 next-waiting : (c : Config) (items : List Flow) (queue served : List Waiting) (start room : ℕ) (at : Standing)
@@ -125,15 +155,16 @@ next-waits c items queue served start room at w here first =
     subst (λ (v : Waiting). still_waits v ≡ true)
     (next-waiting c items queue served start room at w here first) first.waits
 
-module _ (c : Config) (items : List Flow) (queue served : List Waiting) (start room : ℕ) (at : Standing) (w : Waiting)
-    (has : HasStartedIn c items queue served start) (next : IsNextIn c items queue served start room at)
-    (here : one_at at queue served ≡ Some w) where
-  next-stands : StandsIn c items start w
+module _ (c : Config) (items : List Flow) (tiers : List Tier) (queue served : List Waiting) (start room : ℕ)
+    (at : Standing) (w : Waiting) (has : HasStartedIn c items tiers queue served start)
+    (next : IsNextIn c items queue served start room at) (here : one_at at queue served ≡ Some w) where
+  next-stands : StandsIn c items tiers start w
   next-stands =
-      one-stands c items queue served start at w has here (next-waits c items queue served start room at w here next)
+      (one-stands c items tiers queue served start at w has here
+      (next-waits c items queue served start room at w here next)).0
 
   -- so its buckets are counted from a minislot on that is no later
-  pub next-begun : HasBegunBy start w.limits
+  pub next-begun : HasBegunBy start (limits_in tiers w)
   next-begun =
       rw (sym next-stands.limits)
       (begun-by c (live next-stands.flow) next-stands.flow.limits start next-stands.keeps.limits next-stands.started)
@@ -148,8 +179,8 @@ module _ (c : Config) (items : List Flow) (queue served : List Waiting) (start r
       (last-started start f.grants.items next-stands.started)
 
 -- the flow that is next, the flows with its grant, and their queue
-pub record IsServed (c : Config) (items : List Flow) (is_long : Bool) (queue served queue_after served_after : List
-    Waiting) (start room bytes : ℕ) (w new : Waiting) : Type 0 where
+pub record IsServed (c : Config) (items : List Flow) (is_long : Bool) (after : List Tier)
+    (queue served queue_after served_after : List Waiting) (start room bytes : ℕ) (w new : Waiting) : Type 0 where
   pub flow : Flow
   pub found : IsFound c items start room w.place flow
   pub amount : IsAmount c (live flow) start room bytes
@@ -158,23 +189,29 @@ pub record IsServed (c : Config) (items : List Flow) (is_long : Bool) (queue ser
   pub shows : map live grown ≡ changed flow.sid (with_grant (record { start = start; bytes = bytes })) (map live items)
   pub book : IsBook c grown
   pub order : IsOrderIn is_long grown queue_after served_after
+  pub tiered : HaveTiers is_long grown after queue_after served_after
   pub rest : (before : List LiveFlow) → ((place : ℕ) → IsIn place (served_of is_long queue served)
       ⊎ (slice_get (map live items) place ≡ slice_get before place)) → (place : ℕ)
       → IsIn place (served_of is_long queue_after served_after) ⊎ (slice_get (map live grown) place ≡ slice_get before place)
 
-module _ (c : Config) (items : List Flow) (queue served queue_after served_after : List Waiting)
-    (start room bytes more : ℕ) (at : Standing) (w new : Waiting) (lawful : IsLawful c)
-    (has : HasStartedIn c items queue served start) (here : one_at at queue served ≡ Some w)
-    (first : IsNextIn c items queue served start room at)
-    (cap : more ≡ min (bytes_in c room) c.grant_cap) (most : bytes ≡ most_in w.limits start (min w.wants more))
-    (wants : new.wants + bytes ≡ w.wants) (same : new.place ≡ w.place)
-    (limits : HaveOneMore w.limits new.limits start bytes) (settled : StaySettled w.limits new.limits start bytes)
-    (turn : (rank : ℕ) (last : Option ℕ) (sid : ℕ) → IsTurn rank last sid w.turn
-    → IsTurn rank (Some start) sid new.turn) where
-  stands : StandsIn c items start w
-  stands =
-      one-stands c items queue served start at w has here
+module _ (c : Config) (items : List Flow) (tiers after : List Tier) (queue served queue_after served_after : List Waiting)
+    (start room sid bytes more : ℕ) (at : Standing) (w new : Waiting) (lawful : IsLawful c)
+    (has : HasStartedIn c items tiers queue served start) (here : one_at at queue served ≡ Some w)
+    (first : IsNextIn c items queue served start room at) (cap : more ≡ min (bytes_in c room) c.grant_cap)
+    (granted : IsGranted tiers after w new start more sid bytes) where
+  both : StandsIn c items tiers start w × HasTier items tiers w
+  both =
+      one-stands c items tiers queue served start at w has here
       (next-waits c items queue served start room at w here first)
+
+  abbrev stands : StandsIn c items tiers start w
+  stands = both.0
+
+  abbrev wants : new.wants + bytes ≡ w.wants
+  wants = granted.wants
+
+  abbrev same : new.place ≡ w.place
+  same = granted.place
 
   abbrev f : Flow
   f = stands.flow
@@ -200,14 +237,14 @@ module _ (c : Config) (items : List Flow) (queue served queue_after served_after
       amount-of_most c lawful start room (live f) bytes found.next.eligible
       (most-in-limits c (live f) f.limits start room (min w.wants more) bytes lawful
       (omega (arith, cap, stands.wants)) stands.keeps.limits stands.started
-      (most ∙ ap (λ l. most_in l start (min w.wants more)) (sym stands.limits)))
+      (granted.amount ∙ ap (λ l. most_in l start (min w.wants more)) (sym stands.limits)))
 
   -- it with the grant
   abbrev granted-flow : Flow
   granted-flow = record f {
     turn = new.turn;
     granted = f.granted + bytes;
-    limits = new.limits;
+    limits = limits_in after new;
     grants = record f.grants { items = f.grants.items ++ one_more start bytes };
   }
 
@@ -218,14 +255,14 @@ module _ (c : Config) (items : List Flow) (queue served queue_after served_after
     turn = (
       stands.keeps.turn.0,
       rw (last-more f.grants.items (record { start = start; bytes = bytes }))
-          (turn (rank_of f.spec) (last_start f.grants.items) f.sid
+          (granted.turn (rank_of f.spec) (last_start f.grants.items) f.sid
           (subst (IsTurn (rank_of f.spec) (last_start f.grants.items) f.sid) stands.turn stands.keeps.turn.1)),
     );
     periods = periods-more (live f) (record { start = start; bytes = bytes }) stands.keeps.periods;
-    limits = limits-more c (live f) w.limits new.limits start bytes stands.keeps.periods stands.started
-        (subst (AreLimitsOf c (live f)) stands.limits stands.keeps.limits) limits;
-    settled = settled-more c (live f) w.limits new.limits start bytes stands.keeps.periods stands.started
-        (subst (AreSettled (live f)) stands.limits stands.keeps.settled) settled;
+    limits = limits-more c (live f) (limits_in tiers w) (limits_in after new) start bytes stands.keeps.periods
+        stands.started (subst (AreLimitsOf c (live f)) stands.limits stands.keeps.limits) granted.limits;
+    settled = settled-more c (live f) (limits_in tiers w) (limits_in after new) start bytes stands.keeps.periods
+        stands.started (subst (AreSettled (live f)) stands.limits stands.keeps.settled) granted.settled;
   }
 
   -- the flows with it
@@ -242,10 +279,27 @@ module _ (c : Config) (items : List Flow) (queue served queue_after served_after
       has.book.sound.ascending found.stands refl
 
   at-granted : slice_get granted-items w.place ≡ Some granted-flow
-  at-granted =
-      let within = slice_get_within items w.place f stands.at in
-      slice_get-get_or granted-items w.place granted-flow (omega (arith, length-set items w.place granted-flow, within))
-      ∙ ap Some (get_or-set_same items w.place granted-flow granted-flow within)
+  at-granted = set-here items w.place granted-flow (slice_get_within items w.place f stands.at)
+
+  -- what its peak rate brings is as before
+  slow : granted-flow.limits.peak.per_slot ≡ f.limits.peak.per_slot
+  slow = keeps.limits.peak.per_slot ∙ sym stands.keeps.limits.peak.per_slot
+
+  new-tier : (new.tier == NO_TIER) ≡ (granted-flow.limits.peak.per_slot == 0)
+  new-tier =
+      ap (λ k. k == NO_TIER) granted.tier.same ∙ sym stands.tier ∙ ap (λ n. n == 0) (sym slow)
+
+  -- it has its tier, and each other one has its own
+  has-own : HasTier granted-items after new
+  has-own =
+      own-tier c items tiers after w new f granted-flow stands.at both.1 granted.tier
+      (slice_get_within items w.place f stands.at) same refl slow
+
+  have-theirs : (ws : List Waiting) → AllByRecursion (λ v. v.place ≢ w.place) ws → AllByRecursion (HasTier items tiers) ws
+      → AllByRecursion (HasTier granted-items after) ws
+  have-theirs ws =
+      all-both (λ v. v.place ≢ w.place) (HasTier items tiers) (HasTier granted-items after) ws
+      (other-tier c items tiers after w new f granted-flow stands.at both.1 granted.tier)
 
   new-wants : new.wants ≡ outstanding (live granted-flow)
   new-wants = omega (arith, wants, stands.wants, bytes-added f.grants.items start bytes)
@@ -255,13 +309,13 @@ module _ (c : Config) (items : List Flow) (queue served queue_after served_after
   waiting-by true still left there =
       put-among c granted-items granted-book (λ other. other ≢ w.place) (λ other. Unit {0}) left w.place
       granted-flow at-granted (λ k may. cases_eq k w.place) (λ k other. tt) there new same refl new-wants refl
-      (λ differ. differ refl) tt
+      new-tier (λ differ. differ refl) tt
   waiting-by false idle left there =
       pass-among c granted-items granted-book (λ other. other ≢ w.place) (λ other. Unit {0}) left w.place
       granted-flow at-granted (λ k may. cases_eq k w.place) (λ k other. tt) there
       (λ more. let some : 0 < new.wants = omega (arith, new-wants, more) in absurd (grind (arith, nat_tests, idle)))
 
-  module _ (put : IsPutIn items new served queue_after served_after) where
+  module _ (put : IsPutIn items new queue served queue_after served_after) where
     -- those left of those served
     left-queue : IsQueueAmong granted-items (λ k. IsIn k put.left) put.left
     left-queue =
@@ -277,7 +331,7 @@ module _ (c : Config) (items : List Flow) (queue served queue_after served_after
           | inl equal ↦ inl (equal ∙ same)
           | inr old ↦ inr old
         ]) (λ k in-it. in-old k new put.left in-it) left-queue new same refl
-        (omega (arith, wants, stands.wants, bytes-added f.grants.items start bytes)) refl
+        (omega (arith, wants, stands.wants, bytes-added f.grants.items start bytes)) refl new-tier
         (λ in-it. put.out (subst (λ n. IsIn n put.left) (sym same) in-it))
         (subst (λ n. IsIn n (with-one new put.left)) same (in-new new put.left))
 
@@ -301,6 +355,24 @@ module _ (c : Config) (items : List Flow) (queue served queue_after served_after
     long-queue =
         subst (IsQueueIn granted-items queue_after) (sym put.is) (record { served_ones = put-in; others = others-queue })
 
+    long-tiers : HaveTiers true granted-items after queue_after served_after
+    long-tiers =
+        let Out : Waiting → Type 0 = λ v. v.place ≢ w.place in
+        let left-out =
+        all-both (λ v. IsIn v.place put.left) (λ v. IsIn v.place put.left) Out put.left
+        (λ v in-it in-it'. (λ equal. put.out (subst (λ n. IsIn n put.left) (equal ∙ sym same) in-it))) put.among.among
+        put.among.among in
+        let others-out =
+        all-both (λ v. (IsIn v.place put.left → ⊥) × (v.place ≢ new.place))
+        (λ v. (IsIn v.place put.left → ⊥) × (v.place ≢ new.place)) Out (filter still_waits queue_after)
+        (λ v both' both''. (λ equal. both'.1 (equal ∙ sym same))) put.others.among put.others.among in
+        record {
+          ones = subst (AllByRecursion (HasTier granted-items after)) (sym put.is)
+              (all-put_in (λ v. v.turn) (HasTier granted-items after) new put.left has-own
+              (have-theirs put.left left-out (put.tiered tiers has.ones)));
+          others = have-theirs (filter still_waits queue_after) others-out (put.others_tiered tiers has.others);
+        }
+
   -- where few wait it stays in the queue
   module _ (put : IsPutBack items new queue queue_after) where
     waiting-queue : (b : Bool) → still_waits new ≡ b
@@ -319,7 +391,8 @@ module _ (c : Config) (items : List Flow) (queue served queue_after served_after
         (λ v at' differ. ap (option_map entry_of) (same-but items w.place granted-flow v.place differ) ∙ at') put.each
         apart in
         let stands-new : IsAt granted-items new =
-        stands-at items new w.place granted-flow (slice_get_within items w.place f stands.at) refl new-wants refl same in
+        stands-at items new w.place granted-flow (slice_get_within items w.place f stands.at) refl new-wants refl new-tier
+        same in
         record {
           waiting = subst (IsQueue granted-items) (sym put.still) (waiting-queue (still_waits new) refl);
           each = subst (AllByRecursion (IsAt granted-items)) (sym put.is)
@@ -327,10 +400,25 @@ module _ (c : Config) (items : List Flow) (queue served queue_after served_after
           once = subst AreOnce (sym put.is) (once-insert put.others put.at new put.within put.once put.new);
         }
 
+    short-tiers : AllByRecursion (HasTier items tiers) queue → HaveTiers false granted-items after queue_after served_after
+    short-tiers all =
+        let apart = subst (λ k. AllByRecursion (λ v. v.place ≢ k) put.others) same put.new in
+        let ones =
+        subst (AllByRecursion (HasTier granted-items after)) (sym put.is)
+        (all-insert (HasTier granted-items after) put.others put.at new put.within has-own
+        (have-theirs put.others apart (put.tiered tiers all))) in
+        record { ones = ones; others = all-filter (HasTier granted-items after) still_waits queue_after ones }
+
   granted-order : (b : Bool) → IsPut b items new queue served queue_after served_after
       → IsOrderIn b granted-items queue_after served_after
   granted-order true put = long-queue put
   granted-order false put = (short-queue put.0, put.1)
+
+  granted-tiers : (b : Bool) → AllByRecursion (HasTier items tiers) (served_of b queue served)
+      → IsPut b items new queue served queue_after served_after
+      → HaveTiers b granted-items after queue_after served_after
+  granted-tiers true all put = long-tiers put
+  granted-tiers false all put = short-tiers put.0 all
 
   -- each other flow is as it was
   others-rest : (ones left after : List Waiting) → IsIn new.place after
@@ -366,17 +454,19 @@ module _ (c : Config) (items : List Flow) (queue served queue_after served_after
       (subst (IsIn new.place) (sym back.is) (in-inserted back.others back.at new back.within))
       (λ k here. subst (IsIn k) (sym back.is) (in-still k back.others back.at new back.within here)) back.stay
 
-  pub is-served : (b : Bool) → IsPut b items new queue served queue_after served_after
-      → IsServed c items b queue served queue_after served_after start room bytes w new
-  is-served b put = record {
+  pub is-served : (b : Bool) → AllByRecursion (HasTier items tiers) (served_of b queue served)
+      → IsPut b items new queue served queue_after served_after
+      → IsServed c items b after queue served queue_after served_after start room bytes w new
+  is-served b all put = record {
     flow = f;
     found = found;
     amount = amount;
-    turn = turn (rank_of f.spec) (last_start f.grants.items) f.sid
+    turn = granted.turn (rank_of f.spec) (last_start f.grants.items) f.sid
         (subst (IsTurn (rank_of f.spec) (last_start f.grants.items) f.sid) stands.turn stands.keeps.turn.1);
     grown = granted-items;
     shows = granted-shows;
     book = granted-book;
     order = granted-order b put;
+    tiered = granted-tiers b all put;
     rest = granted-rest b put;
   }

@@ -17,7 +17,8 @@ use Rattle.flow_book.specs.declared.queue.Waiting.{Waiting}
 use Rattle.sched_calls.specs.FlowSpec.{rank_of}
 use Rattle.flow_book.specs.Choice.{last_start}
 use Rattle.flow_book.specs.Flows.{outstanding}
-use Rattle.flow_book.specs.declared.limits.Limits.{Limits}
+use Rattle.flow_book.specs.declared.tiers.TheConstants.{NO_TIER}
+use Rattle.flow_book.specs.Bucket.{BucketView}
 use Rattle.flow_book.specs.Entry.{live, IsBook, KeepsSums, KnowsTurn}
 use Rattle.sched_calls.specs.Sids.{AscendBy, put_in}
 use Rattle.flow_book.specs.Queue.{entry_of, IsAt, IsIn, IsQueue, IsQueueAmong, AreSameBut}
@@ -102,14 +103,14 @@ in-removed place (w ∷ queue) zero here = inr here
 in-removed place (w ∷ queue) (suc i) (inl here) = inl here
 in-removed place (w ∷ queue) (suc i) (inr rest) = inr (in-removed place queue i rest)
 
-some-within : (items : List Flow) (place : ℕ) (e : ℕ × ℕ × Limits) → option_map entry_of (slice_get items place) ≡ Some e
+some-within : (items : List Flow) (place : ℕ) (e : ℕ × ℕ × BucketView × Bool) → option_map entry_of (slice_get items place) ≡ Some e
     → place < length items
 some-within [] place e at = absurd (cc)
 some-within (f ∷ items) zero e at = omega arith
 some-within (f ∷ items) (suc place) e at = omega (arith, some-within items place e at)
 
 -- what is the same as some is the same
-pub same-some : (d e : ℕ × ℕ × Limits) → Some d ≡ Some e → d ≡ e
+pub same-some : (d e : ℕ × ℕ × BucketView × Bool) → Some d ≡ Some e → d ≡ e
 same-some d e same = cc
 
 -- where none in the queue has the place none has it
@@ -122,40 +123,50 @@ none-at place queue none =
     let fails : ((get_or queue k d).place == place) ≡ false = fails_before_first p queue k d (omega arith) in
     (λ same. absurd (grind (arith, nat_tests))))
 
+-- what is told of the flow of one that waits
+abbrev pub told : Waiting → ℕ × ℕ × BucketView × Bool
+told w = (w.turn, w.wants, w.sustained, w.tier == NO_TIER)
+
 module _ (items : List Flow) where
   -- its place is one of the flows'
   pub at-within : (w : Waiting) → IsAt items w → w.place < length items
-  at-within w at = some-within items w.place (w.turn, w.wants, w.limits) at
+  at-within w at = some-within items w.place (told w) at
 
   -- there is a flow at its place
   pub flow-at : (w : Waiting) (o : Option Flow) → slice_get items w.place ≡ o → IsAt items w
       → (f : Flow) × (slice_get items w.place ≡ Some f)
   flow-at w None e at =
-      let no : option_map entry_of None ≡ Some (w.turn, w.wants, w.limits) = ap (option_map entry_of) (sym e) ∙ at in absurd (cc)
+      let no : option_map entry_of None ≡ Some (told w) = ap (option_map entry_of) (sym e) ∙ at in absurd (cc)
   flow-at w (Some f) e at = (f, e)
 
   -- its entry
   pub entry-at : (w : Waiting) (f : Flow) → IsAt items w → slice_get items w.place ≡ Some f
-      → entry_of f ≡ (w.turn, w.wants, w.limits)
-  entry-at w f at found = same-some (entry_of f) (w.turn, w.wants, w.limits) (ap (option_map entry_of) (sym found) ∙ at)
+      → entry_of f ≡ told w
+  entry-at w f at found = same-some (entry_of f) (told w) (ap (option_map entry_of) (sym found) ∙ at)
 
   -- the flow that waits has this turn
   pub turn-at : (w : Waiting) (f : Flow) → IsAt items w → slice_get items w.place ≡ Some f → f.turn ≡ w.turn
-  turn-at w f at found = ap (λ (e : ℕ × ℕ × Limits). e.0) (entry-at w f at found)
+  turn-at w f at found = ap (λ (e : ℕ × ℕ × BucketView × Bool). e.0) (entry-at w f at found)
 
   -- and waits for these bytes
   pub wants-at : (w : Waiting) (f : Flow) → IsAt items w → slice_get items w.place ≡ Some f
       → outstanding (live f) ≡ w.wants
-  wants-at w f at found = ap (λ (e : ℕ × ℕ × Limits). e.1) (entry-at w f at found)
+  wants-at w f at found = ap (λ (e : ℕ × ℕ × BucketView × Bool). e.1) (entry-at w f at found)
 
-  -- and its ceilings leave this
-  pub limits-at : (w : Waiting) (f : Flow) → IsAt items w → slice_get items w.place ≡ Some f → f.limits ≡ w.limits
-  limits-at w f at found = ap (λ (e : ℕ × ℕ × Limits). e.2) (entry-at w f at found)
+  -- and its maximum sustained rate leaves this
+  pub sustained-at : (w : Waiting) (f : Flow) → IsAt items w → slice_get items w.place ≡ Some f
+      → f.limits.sustained ≡ w.sustained
+  sustained-at w f at found = ap (λ (e : ℕ × ℕ × BucketView × Bool). e.2) (entry-at w f at found)
+
+  -- and it has a tier where it has a peak rate
+  pub tier-at : (w : Waiting) (f : Flow) → IsAt items w → slice_get items w.place ≡ Some f
+      → (f.limits.peak.per_slot == 0) ≡ (w.tier == NO_TIER)
+  tier-at w f at found = ap (λ (e : ℕ × ℕ × BucketView × Bool). e.3) (entry-at w f at found)
 
   -- at one place there is one turn
   pub same-turn : (v w : Waiting) → IsAt items v → IsAt items w → v.place ≡ w.place → v.turn ≡ w.turn
   same-turn v w at at' same =
-      ap (λ (e : ℕ × ℕ × Limits). e.0) (same-some (v.turn, v.wants, v.limits) (w.turn, w.wants, w.limits)
+      ap (λ (e : ℕ × ℕ × BucketView × Bool). e.0) (same-some (told v) (told w)
       (sym at ∙ ap (λ k. option_map entry_of (slice_get items k)) same ∙ at'))
 
   later : (w : Waiting) (queue : List Waiting) → IsAt items w → AllByRecursion (IsAt items) queue
@@ -245,23 +256,32 @@ pub among-others : (place : ℕ) (old new : List Flow) (queue : List Waiting) �
     → IsQueueAmong old (λ other. other ≢ place) queue → IsQueueAmong new (λ other. other ≢ place) queue
 among-others place old new queue = among-same (λ other. other ≢ place) place old new queue (λ k other. other)
 
+module _ {X : Type 0} where
+  -- what is put at a place is there
+  pub set-here : (xs : List X) (i : ℕ) (x : X) → i < length xs → slice_get (set xs i x) i ≡ Some x
+  set-here xs i x lt =
+      slice_get-get_or (set xs i x) i x (omega (arith, length-set xs i x)) ∙ ap Some (get_or-set_same xs i x x lt)
+
+  -- and the others are where they were
+  pub set-other : (xs : List X) (i : ℕ) (x : X) (j : ℕ) → j ≢ i → slice_get (set xs i x) j ≡ slice_get xs j
+  set-other [] zero x j differ = refl
+  set-other [] (suc i) x j differ = refl
+  set-other (y ∷ xs) zero x zero differ = absurd (differ refl)
+  set-other (y ∷ xs) zero x (suc j) differ = refl
+  set-other (y ∷ xs) (suc i) x zero differ = refl
+  set-other (y ∷ xs) (suc i) x (suc j) differ = set-other xs i x j (λ same. differ (ap suc same))
+
 -- the flows are the same at each place but where another is put
 pub same-but : (items : List Flow) (place : ℕ) (e : Flow) → AreSameBut place items (set items place e)
-same-but [] zero e other differ = refl
-same-but [] (suc place) e other differ = refl
-same-but (f ∷ items) zero e zero differ = absurd (differ refl)
-same-but (f ∷ items) zero e (suc other) differ = refl
-same-but (f ∷ items) (suc place) e zero differ = refl
-same-but (f ∷ items) (suc place) e (suc other) differ = same-but items place e other (λ same. differ (ap suc same))
+same-but items place e = set-other items place e
 
 -- a flow that is put at a place has there what is told of it
 pub stands-at : (items : List Flow) (w : Waiting) (place : ℕ) (e : Flow) → place < length items → w.turn ≡ e.turn
-    → w.wants ≡ outstanding (live e) → w.limits ≡ e.limits → w.place ≡ place → IsAt (set items place e) w
-stands-at items w place e lt turn wants limits at =
-    let here : slice_get (set items place e) place ≡ Some e =
-    slice_get-get_or (set items place e) place e (omega (arith, length-set items place e))
-    ∙ ap Some (get_or-set_same items place e e lt) in
-    rw (at, turn, wants, limits, here) refl
+    → w.wants ≡ outstanding (live e) → w.sustained ≡ e.limits.sustained
+    → (w.tier == NO_TIER) ≡ (e.limits.peak.per_slot == 0) → w.place ≡ place → IsAt (set items place e) w
+stands-at items w place e lt turn wants sustained tier at =
+    let here = set-here items place e lt in
+    rw (at, turn, wants, sustained, tier, here) refl
 
 none-found : (turn : ℕ) (queue : List Waiting) → AllByRecursion (λ v. v.turn ≢ turn) queue
     → find (λ v. v.turn == turn) queue ≡ None
@@ -337,9 +357,10 @@ module _ (c : Config) (items : List Flow) (are : IsBook c items) where
 
     -- a queue with the flow at one more place
     pub put-among : (w : Waiting) → w.place ≡ place → w.turn ≡ f.turn → w.wants ≡ outstanding (live f)
-        → w.limits ≡ f.limits → (some place → ⊥) → more place → IsQueueAmong items more (with-one w queue)
-    put-among w at turn wants limits out new =
-        let stands : IsAt items w = rw (at, turn, wants, limits, here) refl in
+        → w.sustained ≡ f.limits.sustained → (w.tier == NO_TIER) ≡ (f.limits.peak.per_slot == 0) → (some place → ⊥)
+        → more place → IsQueueAmong items more (with-one w queue)
+    put-among w at turn wants sustained tier out new =
+        let stands : IsAt items w = rw (at, turn, wants, sustained, tier, here) refl in
         let differ = rw (sym turn) at (all-differ out queue is.each is.among) in
         record {
           ascending = ascends-put_in (λ v. v.turn) w queue (none-found w.turn queue differ) is.ascending;

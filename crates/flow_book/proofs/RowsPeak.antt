@@ -1,12 +1,12 @@
 -- Worked examples of data grants under a peak rate.
-use Rattle.std.proofs.Common.{◌≡◌, ℕ, zero, suc, ◌+◌, ◌*◌, ◌≤◌, ◌<◌, [], ◌∷◌, refl, lit<, lit≤, arith}
+use Rattle.std.proofs.Common.{◌≡◌, ℕ, zero, suc, ◌+◌, ◌*◌, ◌≤◌, ◌<◌, [], refl, lit<, lit≤, arith}
 use Rattle.sched_calls.specs.declared.spec.FlowSpec.TheVariants.{Polled, BestEffort}
 use Rattle.flow_book.specs.Flows.{LiveFlow, bytes_of, in_period, in_peak_period}
 use Rattle.flow_book.specs.Book.{with_spec}
 use Rattle.flow_book.specs.Ceiling.{window, start_of}
-use Rattle.flow_book.specs.Choice.{MayTake, MayGrant, IsAmount, IsEligible}
+use Rattle.flow_book.specs.Choice.{IsAmount, IsEligible}
 use Rattle.sched_calls.proofs.Base.{base}
-use Rattle.flow_book.proofs.RowsCeiling.{under_ceiling, grant, three, kept, limited}
+use Rattle.flow_book.proofs.RowsCeiling.{under_ceiling, three, kept, limited}
 
 -- the flow with two grants of 544 bytes, without a ceiling but a peak rate of 64000 bits in a second
 abbrev peaking : LiveFlow

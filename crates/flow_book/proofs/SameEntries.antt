@@ -1,6 +1,6 @@
 -- What is kept of a flow beside its grants is decided by what it shows.
 use Rattle.std.proofs.Common.{◌≡◌, refl, sym, ap, ◌∙◌, subst, ℕ, zero, suc, ◌<◌, List, [], ◌∷◌, map, filter}
-use Rattle.std.proofs.Common.{slice_get, Option, Some, None, option_map, arith}
+use Rattle.std.proofs.Common.{◌==◌, Bool, slice_get, Option, Some, None, option_map, arith}
 use Rattle.std.specs.List.{AllByRecursion}
 use Rattle.minislots.specs.declared.config.Config.{Config}
 use Rattle.sched_calls.specs.FlowSpec.{rank_of, rate_of, burst_of, peak_of}
@@ -10,6 +10,7 @@ use Rattle.flow_book.specs.declared.queue.Waiting.{Waiting}
 use Rattle.flow_book.specs.Flows.{LiveFlow, outstanding, in_period, in_peak_period}
 use Rattle.flow_book.specs.Limits.{AreLimitsOf, AreSettled}
 use Rattle.flow_book.specs.declared.limits.Limits.{Limits}
+use Rattle.flow_book.specs.Bucket.{BucketView}
 use Rattle.flow_book.specs.Choice.{last_start}
 use Rattle.flow_book.specs.Entry.{live, IsBook, IsTurn, KeepsSums}
 use Rattle.flow_book.specs.Queue.{entry_of, IsAt, IsIn, IsQueue, IsQueueAmong, IsQueueIn, still_waits}
@@ -46,8 +47,9 @@ same-entry c f g keeps keeps' same =
     let limits : f.limits ≡ g.limits =
     same-limits c (live f) f.limits g.limits keeps.limits (rw same keeps'.limits) keeps.settled (rw same keeps'.settled) in
     let wants : outstanding (live f) ≡ outstanding (live g) = ap outstanding same in
-    ap (λ n. (n, outstanding (live f), f.limits)) turn ∙ ap (λ n. (g.turn, n, f.limits)) wants
-    ∙ ap (λ l. (g.turn, outstanding (live g), l)) limits
+    ap (λ n. (n, outstanding (live f), f.limits.sustained, f.limits.peak.per_slot == 0)) turn
+    ∙ ap (λ n. (g.turn, n, f.limits.sustained, f.limits.peak.per_slot == 0)) wants
+    ∙ ap (λ (l : Limits). (g.turn, outstanding (live g), l.sustained, l.peak.per_slot == 0)) limits
 
 same-head : {X : Type 0} (x y : X) (xs ys : List X) → x ∷ xs ≡ y ∷ ys → x ≡ y
 same-head x y xs ys same = cc
@@ -66,7 +68,7 @@ there-of : (o : Option Flow) (f : Flow) → option_map entry_of o ≡ Some (entr
 there-of None f is = absurd (cc)
 there-of (Some g) f is =
     let e : entry_of g ≡ entry_of f = same-some (entry_of g) (entry_of f) is in
-    (g, refl, sym (ap (λ (t : ℕ × ℕ × Limits). t.1) e))
+    (g, refl, sym (ap (λ (t : ℕ × ℕ × BucketView × Bool). t.1) e))
 
 -- where there is a flow in the one there is one in the other, which waits for as much
 there-too : (new items : List Flow) (place : ℕ) (f : Flow)

@@ -1,13 +1,12 @@
 -- The first in the queue that may be served is the flow that is served first.
 use Rattle.std.proofs.Common.{◌≡◌, refl, sym, ap, ◌∙◌, ℕ, suc, ◌<◌, ◌≤◌, min, true, nat_eq, IsTrue, ◌↔◌, filter}
 use Rattle.std.proofs.Common.{◌⊎◌, inl, inr, Contains}
-use Rattle.std.proofs.Common.{List, [], ◌∷◌, ◌++◌, map, slice_get, Option, Some, None, subst, Bool, length, get_or}
+use Rattle.std.proofs.Common.{List, [], ◌∷◌, ◌++◌, map, slice_get, Some, subst, Bool, length, get_or}
 use Rattle.std.proofs.Common.{◌==◌, arith}
 use Rattle.std.proofs.lemmas.Bool.{cases_eq, eq-eqb}
 use Rattle.std.proofs.lemmas.Bool.Decides.{nat_tests}
 use Rattle.std.proofs.lemmas.List.Elements.{All-from_recursion}
 use Rattle.std.specs.List.{AllByRecursion}
-use Rattle.std.specs.Option.{MatchOption}
 use Rattle.std.proofs.lemmas.Option.{slice_get_within, get_or_from_slice_get}
 use Rattle.std.proofs.Math.ListN.{get_or-map}
 use Rattle.std.proofs.lemmas.List.{length-map}
@@ -25,14 +24,17 @@ use Rattle.flow_book.specs.Entry.{live, IsBook, KeepsSums, KnowsTurn}
 use Rattle.flow_book.specs.Bucket.{HaveStartedBy}
 use Rattle.flow_book.specs.Limits.{most_in}
 use Rattle.sched_calls.specs.Sids.{AscendBy}
-use Rattle.flow_book.specs.Queue.{IsAt, IsIn, IsPassed, IsNoEarlier, IsQueueIn, HasStartedQueue, HasStartedPart}
-use Rattle.flow_book.specs.Queue.{IsFirstAble}
-use Rattle.flow_book.specs.Queue.{IsFirstInTurn, still_waits}
+use Rattle.flow_book.specs.Queue.{IsAt, IsIn, IsPassed, IsNoEarlier, IsQueueIn, HasStartedPart, still_waits}
+use Rattle.flow_book.specs.Tiers.{HasTier, limits_in}
+use Rattle.flow_book.specs.declared.tiers.Tier.{Tier}
+use Rattle.flow_book.specs.declared.tiers.TheConstants.{NO_TIER}
+use Rattle.flow_book.proofs.PeakRates.{limits-at}
 use Rattle.flow_book.proofs.Amounts.{eligible-is, limits-within}
 use Rattle.flow_book.proofs.Turns.{less-first}
 use Rattle.flow_book.proofs.Steps.{all-item}
-use Rattle.flow_book.proofs.Queues.{all-both, at-within, flow-at, turn-at, wants-at, limits-at, knows-at, one-place}
-use Rattle.flow_book.proofs.StillWaiting.{in-or-out, stays-in, kept-at, filter-split, none-served, all-joined}
+use Rattle.flow_book.proofs.Queues.{all-both, at-within, flow-at, turn-at, wants-at, sustained-at, tier-at}
+use Rattle.flow_book.proofs.Queues.{knows-at, one-place}
+use Rattle.flow_book.proofs.StillWaiting.{in-or-out, stays-in, kept-at, filter-split, all-joined}
 use Rattle.flow_book.proofs.Order.{all-implied}
 use Rattle.sched_calls.proofs.Removal.{all-filter}
 
@@ -104,68 +106,76 @@ may-is c start room f wants wanted may lawful keeps started asks is fits decides
     (yes', back)
 
 -- what is known of the flow of an entry of the queue
-pub record StandsIn (c : Config) (items : List Flow) (start : ℕ) (w : Waiting) : Type 0 where
+pub record StandsIn (c : Config) (items : List Flow) (tiers : List Tier) (start : ℕ) (w : Waiting) : Type 0 where
   pub flow : Flow
   pub at : slice_get items w.place ≡ Some flow
   pub keeps : KeepsSums c flow
   pub started : HaveStartedBy start flow.grants.items
   pub turn : flow.turn ≡ w.turn
   pub wants : outstanding (live flow) ≡ w.wants
-  pub limits : flow.limits ≡ w.limits
+  pub sustained : flow.limits.sustained ≡ w.sustained
+  pub tier : (flow.limits.peak.per_slot == 0) ≡ (w.tier == NO_TIER)
+  pub limits : flow.limits ≡ limits_in tiers w
 
 -- one that stands at its place has a flow
-pub stands-at-place : (c : Config) (items : List Flow) (start : ℕ) (w : Waiting) → IsBook c items
-    → AllByRecursion (HasStartedBy start) (map live items) → IsAt items w → StandsIn c items start w
-stands-at-place c items start w book began at =
+pub stands-at-place : (c : Config) (items : List Flow) (tiers : List Tier) (start : ℕ) (w : Waiting) → IsBook c items
+    → AllByRecursion (HasStartedBy start) (map live items) → IsAt items w → HasTier items tiers w
+    → StandsIn c items tiers start w
+stands-at-place c items tiers start w book began at has =
     let found = flow-at items w (slice_get items w.place) refl at in
     let f = found.0 in
     let within = at-within items w at in
     let read : f ≡ get_or items w.place f = sym (get_or_from_slice_get items w.place f f found.1) in
+    let keeps : KeepsSums c f = rw read (All-from_recursion (KeepsSums c) items book.sums w.place f within) in
     record {
       flow = f;
       at = found.1;
-      keeps = rw read (All-from_recursion (KeepsSums c) items book.sums w.place f within);
+      keeps = keeps;
       started = all-item live items w.place f within read (HasStartedBy start) began;
       turn = turn-at items w f at found.1;
       wants = wants-at items w f at found.1;
-      limits = limits-at items w f at found.1;
+      sustained = sustained-at items w f at found.1;
+      tier = tier-at items w f at found.1;
+      limits = limits-at c items tiers w f keeps at has found.1;
     }
 
 -- an entry that still waits has a flow
-pub stands-in : (c : Config) (items : List Flow) (queue : List Waiting) (start i : ℕ) (w : Waiting)
-    → HasStartedPart c items queue start → i < length queue → w ≡ get_or queue i w → 0 < w.wants → StandsIn c items
-    start w
-stands-in c items queue start i w is lt here waits =
+pub stands-in : (c : Config) (items : List Flow) (tiers : List Tier) (queue : List Waiting) (start i : ℕ) (w : Waiting)
+    → HasStartedPart c items tiers queue start → i < length queue → w ≡ get_or queue i w → 0 < w.wants
+    → StandsIn c items tiers start w
+stands-in c items tiers queue start i w is lt here waits =
     let still : still_waits w ≡ true = grind (arith, nat_tests) in
-    let at : IsAt items w = rw here (kept-at (IsAt items) still_waits queue i w lt (ap still_waits
-    (sym here) ∙ still) is.each) in
-    stands-at-place c items start w is.book is.started at
+    let keeps = ap still_waits (sym here) ∙ still in
+    let at : IsAt items w = rw here (kept-at (IsAt items) still_waits queue i w lt keeps is.each) in
+    let has = subst (HasTier items tiers) (sym here)
+    (kept-at (HasTier items tiers) still_waits queue i w lt keeps is.tiered) in
+    stands-at-place c items tiers start w is.book is.started at has
 
 equal : (m n : ℕ) → (m == n) ≡ true → m ≡ n
 equal m n same = grind (arith, nat_tests)
 
 -- it may be served where the bytes that it waits for, or the quantum, fit and keep the ceilings
-pub entry-may : (c : Config) (start room : ℕ) (items : List Flow) (w : Waiting) (wanted : ℕ) (may : Bool) → IsLawful c
-    → (is : StandsIn c items start w) → wanted ≡ min w.wants c.quantum → 0 < wanted → wanted ≤ bytes_in c room
-    → may ≡ (most_in w.limits start wanted == wanted)
+pub entry-may : (c : Config) (start room : ℕ) (items : List Flow) (tiers : List Tier) (w : Waiting) (wanted : ℕ)
+    (may : Bool) → IsLawful c → (is : StandsIn c items tiers start w) → wanted ≡ min w.wants c.quantum → 0 < wanted → wanted ≤ bytes_in c room
+    → may ≡ (most_in (limits_in tiers w) start wanted == wanted)
     → IsTrue may ↔ IsEligible c start room (live is.flow)
-entry-may c start room items w wanted may lawful is limits some fits tested =
+entry-may c start room items tiers w wanted may lawful is limits some fits tested =
     let f = is.flow in
     let takes : takes_requests f.spec ≡ true = is.keeps.asks (omega (arith, is.wants, limits, some)) in
-    let most : most_in f.limits start wanted ≡ most_in w.limits start wanted =
+    let most : most_in f.limits start wanted ≡ most_in (limits_in tiers w) start wanted =
     ap (λ l. most_in l start wanted) is.limits in
     may-is c start room f w.wants wanted may lawful is.keeps is.started is.wants limits fits (
-      (λ t. (takes, some, most ∙ equal (most_in w.limits start wanted) wanted (sym tested ∙ t))),
-      (λ p. tested ∙ eq-eqb (most_in w.limits start wanted) wanted (sym most ∙ p.2)),
+      (λ t. (takes, some, most ∙ equal (most_in (limits_in tiers w) start wanted) wanted (sym tested ∙ t))),
+      (λ p. tested ∙ eq-eqb (most_in (limits_in tiers w) start wanted) wanted (sym most ∙ p.2)),
     )
 
--- one of a list that still waits stands at its place where those that do stand there
-pub kept-of : (items : List Flow) (queue : List Waiting) (i : ℕ) (w : Waiting) → slice_get queue i ≡ Some w
-    → still_waits w ≡ true → AllByRecursion (IsAt items) (filter still_waits queue) → IsAt items w
-kept-of items queue i w here still all =
+-- what holds of those of a list that still wait holds of one that does
+pub kept-of : (P : Waiting → Type 0) (queue : List Waiting) (i : ℕ) (w : Waiting) → slice_get queue i ≡ Some w
+    → still_waits w ≡ true → AllByRecursion P (filter still_waits queue) → P w
+kept-of P queue i w here still all =
     let within = slice_get_within queue i w here in
     let is : get_or queue i w ≡ w = get_or_from_slice_get queue i w w here in
-    subst (IsAt items) is (kept-at (IsAt items) still_waits queue i w within (ap still_waits is ∙ still) all)
+    subst P is (kept-at P still_waits queue i w within (ap still_waits is ∙ still) all)
 
 module _ (c : Config) (start room : ℕ) (items : List Flow) where
   -- behind those that may not be served each is no earlier than the next one
@@ -242,33 +252,3 @@ module _ (c : Config) (start room : ℕ) (items : List Flow) (are : IsBook c ite
       (λ k g found may.
       let v = one-of (IsPassed c start room items) k g found may.waits all all' in
       v.2 g (ap (slice_get items) v.1 ∙ found) may)
-
--- the queue of a book is a part
-pub whole-part : (c : Config) (items : List Flow) (queue : List Waiting) (start : ℕ)
-    → HasStartedQueue c items queue start
-    → HasStartedPart c items queue start
-whole-part c items queue start has =
-    let is = none-served items queue has.order in
-    record { book = has.book; ascending = is.others.ascending; each = is.others.each; started = has.started }
-
--- which has the first that may be served where the part has it
-pub whole-next : (c : Config) (items : List Flow) (queue : List Waiting) (start room : ℕ)
-    → HasStartedQueue c items queue start → (found : Option ℕ)
-    → MatchOption found (AllByRecursion (IsPassed c start room items) (filter still_waits queue))
-    (IsFirstAble c items queue start room)
-    → MatchOption found (NoneEligible c (map live items) start room) (IsFirstInTurn c items queue start room)
-whole-next c items queue start room has None passed =
-    none-next c start room items has.book queue [] (none-served items queue has.order) passed tt
-whole-next c items queue start room has (Some index) is =
-    let part = whole-part c items queue start has in
-    let within = slice_get_within queue index is.waiting is.here in
-    let at = kept-of items queue index is.waiting is.here is.waits part.each in
-    record {
-      waiting = is.waiting;
-      here = is.here;
-      flow = is.flow;
-      at = is.at;
-      next = first-next c start room items has.book queue []
-          (none-served items queue has.order) is.waiting is.flow is.at
-          at is.may is.first tt;
-    }

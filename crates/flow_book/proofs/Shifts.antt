@@ -65,7 +65,8 @@ module _ {X : Type 0} where
 
 -- the one that waits stands at another place
 moved : (ℕ → ℕ) → Waiting → Waiting
-moved to w = record { turn = w.turn; wants = w.wants; place = to w.place; limits = w.limits }
+moved to w =
+    record { turn = w.turn; wants = w.wants; place = to w.place; tier = w.tier; sustained = w.sustained }
 
 ascends-moved : (to : ℕ → ℕ) (queue : List Waiting) → AscendBy (λ w. w.turn) queue
     → AscendBy (λ w. w.turn) (map (moved to) queue)

@@ -18,9 +18,12 @@ use Rattle.flow_book.specs.Entry.{live, IsCopy, IsSoundFlow, KeepsSums}
 use Rattle.sched_calls.specs.Sids.{AscendBy}
 use Rattle.flow_book.specs.Queue.{IsAt, IsIn}
 use Rattle.flow_book.specs.Overlay.{IsSameFlow}
+use Rattle.flow_book.specs.Tiers.{HasTier, limits_in}
+use Rattle.flow_book.specs.declared.tiers.Tier.{Tier}
 use Rattle.flow_book.specs.Taking.{CanBeTaken, IsTaken}
 use Rattle.flow_book.proofs.Once.{fresh-once}
-use Rattle.flow_book.proofs.Queues.{at-within, flow-at, turn-at, wants-at, limits-at, same-turn, same-but}
+use Rattle.flow_book.proofs.Queues.{at-within, flow-at, turn-at, wants-at, same-turn, same-but}
+use Rattle.flow_book.proofs.PeakRates.{limits-at}
 use Rattle.flow_book.proofs.StillWaiting.{in-or-out, all-at}
 use Rattle.flow_book.proofs.Sums.{copy-sums}
 
@@ -108,7 +111,8 @@ pub record IsHere (old items : List Flow) (w : Waiting) (f g : Flow) : Type 0 wh
   pub found : slice_get old w.place ≡ Some f
   pub same : IsSameFlow (live f) (live g)
 
-module _ (c : Config) (old items : List Flow) (queue : List Waiting) (can : CanBeTaken c old items queue) where
+module _ (c : Config) (old items : List Flow) (tiers : List Tier) (queue : List Waiting)
+    (can : CanBeTaken c old items tiers queue) where
   -- they are as many
   as-many : length items ≡ length old
   as-many =
@@ -122,6 +126,9 @@ module _ (c : Config) (old items : List Flow) (queue : List Waiting) (can : CanB
   module _ (i : ℕ) (w : Waiting) (lt : i < length queue) (is : w ≡ get_or queue i w) where
     at-queue : IsAt items w
     at-queue = rw is (All-from_recursion (IsAt items) queue can.each i w lt)
+
+    has-tier : HasTier items tiers w
+    has-tier = rw is (All-from_recursion (HasTier items tiers) queue can.tiered i w lt)
 
     -- its place is one of the flows'
     pub place-within : w.place < length old
@@ -166,7 +173,7 @@ module _ (c : Config) (old items : List Flow) (queue : List Waiting) (can : CanB
           → IsCopy is-here.0 (record f {
             turn = w.turn;
             granted = f.asked - w.wants;
-            limits = w.limits;
+            limits = limits_in tiers w;
             grants = grants;
           })
       copied grants are =
@@ -188,7 +195,7 @@ module _ (c : Config) (old items : List Flow) (queue : List Waiting) (can : CanB
               keeps.granted,
             );
             turn = sym (turn-at items w g here.is here.at);
-            limits = sym (limits-at items w g here.is here.at);
+            limits = sym (limits-at c items tiers w g keeps here.is has-tier here.at);
           }
 
       -- so one place more is done where it is put there

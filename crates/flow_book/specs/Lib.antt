@@ -18,4 +18,5 @@ pub mod Queue
 pub mod Shown
 pub mod Pending
 pub mod Taking
+pub mod Tiers
 pub mod Line

@@ -6,18 +6,23 @@ use Rattle.minislots.specs.declared.config.Config.{Config}
 use Rattle.flow_book.specs.declared.flow.Flow.{Flow}
 use Rattle.flow_book.specs.declared.queue.Waiting.{Waiting}
 use Rattle.flow_book.specs.Flows.{outstanding}
-use Rattle.flow_book.specs.declared.limits.Limits.{Limits}
-use Rattle.flow_book.specs.Choice.{HasStartedBy, IsEligible, IsNext}
+use Rattle.flow_book.specs.declared.tiers.Tier.{Tier}
+use Rattle.flow_book.specs.declared.tiers.TheConstants.{NO_TIER}
+use Rattle.flow_book.specs.Bucket.{BucketView}
+use Rattle.flow_book.specs.Choice.{HasStartedBy, IsEligible}
+use Rattle.flow_book.specs.Tiers.{HasTier}
 use Rattle.flow_book.specs.Entry.{live, IsBook}
 use Rattle.sched_calls.specs.Sids.{AscendBy, put_in}
 
--- a flow's turn, the bytes that it waits for, and what its ceilings leave
-abbrev pub entry_of : Flow → ℕ × ℕ × Limits
-entry_of f = (f.turn, outstanding (live f), f.limits)
+-- a flow's turn, the bytes that it waits for, what its maximum sustained rate leaves, and whether it has no peak rate
+abbrev pub entry_of : Flow → ℕ × ℕ × BucketView × Bool
+entry_of f = (f.turn, outstanding (live f), f.limits.sustained, f.limits.peak.per_slot == 0)
 
--- there is a flow at its place, and these are its turn, the bytes that it waits for, and what its ceilings leave
+-- there is a flow at its place, and these are its turn, the bytes that it waits for, what its maximum sustained rate
+-- leaves, and whether it has no peak rate
 abbrev pub IsAt : List Flow → Waiting → Type 0
-IsAt items w = option_map entry_of (slice_get items w.place) ≡ Some (w.turn, w.wants, w.limits)
+IsAt items w =
+    option_map entry_of (slice_get items w.place) ≡ Some (w.turn, w.wants, w.sustained, w.tier == NO_TIER)
 
 -- the place is one of those in the queue
 abbrev pub IsIn : ℕ → List Waiting → Type 0
@@ -92,31 +97,19 @@ pub record IsMoved (items : List Flow) (w : Waiting) (queue : List Waiting) : Ty
   pub among : IsQueueAmong items (λ other. other ≢ w.place) others
   pub is : queue ≡ put_in (λ v. v.turn) w others
 
--- The flows are a book's and the queue is theirs, and all their grants have started by this minislot
-pub record HasStartedQueue (c : Config) (items : List Flow) (queue : List Waiting) (start : ℕ) : Type 0 where
-  pub book : IsBook c items
-  pub order : IsQueue items queue
-  pub started : AllByRecursion (HasStartedBy start) (map live items)
-
--- the flow that is served first, in so many minislots, stands here in the queue
-pub record IsFirstInTurn (c : Config) (items : List Flow) (queue : List Waiting) (start room index : ℕ) : Type 0 where
-  pub waiting : Waiting
-  pub here : slice_get queue index ≡ Some waiting
-  pub flow : Flow
-  pub at : slice_get items waiting.place ≡ Some flow
-  pub next : IsNext c (map live items) start room (live flow)
-
 -- none before this place in the queue wants anything
 abbrev pub NoneWaitsBefore : ℕ → List Waiting → Type 0
 NoneWaitsBefore first queue = AllByRecursion (λ w. w.wants ≡ 0) (take first queue)
 
--- The flows are a book's, those of a list that still wait are of its flows, by their turns, and all grants have started
--- by this minislot
-pub record HasStartedPart (c : Config) (items : List Flow) (queue : List Waiting) (start : ℕ) : Type 0 where
-  pub book : IsBook c items
-  pub ascending : AscendBy (λ w. w.turn) (filter still_waits queue)
-  pub each : AllByRecursion (IsAt items) (filter still_waits queue)
-  pub started : AllByRecursion (HasStartedBy start) (map live items)
+-- The flows are a book's, those of a list that still wait are of its flows, by their turns, with their tiers, and all
+-- grants have started by this minislot
+pub record HasStartedPart (c : Config) (items : List Flow) (tiers : List Tier) (queue : List Waiting) (start : ℕ) : Type 0
+  where
+    pub book : IsBook c items
+    pub ascending : AscendBy (λ w. w.turn) (filter still_waits queue)
+    pub each : AllByRecursion (IsAt items) (filter still_waits queue)
+    pub tiered : AllByRecursion (HasTier items tiers) (filter still_waits queue)
+    pub started : AllByRecursion (HasStartedBy start) (map live items)
 
 -- its flow may not be served
 abbrev pub IsPassed : Config → ℕ → ℕ → List Flow → Waiting → Type 0

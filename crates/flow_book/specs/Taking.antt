@@ -4,15 +4,19 @@ use Rattle.std.specs.List.{AllByRecursion, AllZip}
 use Rattle.minislots.specs.declared.config.Config.{Config}
 use Rattle.flow_book.specs.declared.flow.Flow.{Flow}
 use Rattle.flow_book.specs.declared.queue.Waiting.{Waiting}
+use Rattle.flow_book.specs.declared.tiers.Tier.{Tier}
 use Rattle.flow_book.specs.Entry.{live, IsBook}
 use Rattle.flow_book.specs.Queue.{IsAt, IsIn, AreOnce, IsQueueAmong}
 use Rattle.flow_book.specs.Overlay.{IsSameFlow}
+use Rattle.flow_book.specs.Tiers.{HasTier}
 
--- the flows of a book before and after (`items`) a MAP, and those that it served: each other flow is the same
-pub record CanBeTaken (c : Config) (old items : List Flow) (served : List Waiting) : Type 0 where
+-- the flows of a book before and after (`items`) a MAP, and those that it served, with their tiers: each other flow is
+-- the same
+pub record CanBeTaken (c : Config) (old items : List Flow) (tiers : List Tier) (served : List Waiting) : Type 0 where
   pub before : IsBook c old
   pub book : IsBook c items
   pub each : AllByRecursion (IsAt items) served
+  pub tiered : AllByRecursion (HasTier items tiers) served
   pub once : AreOnce served
   pub same : AllZip IsSameFlow (map live old) (map live items)
   pub rest : (place : ℕ) → IsIn place served ⊎ (slice_get (map live items) place ≡ slice_get (map live old) place)

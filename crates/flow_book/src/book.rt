@@ -1,24 +1,24 @@
 //! The live flows of a channel, in order of SID.
 
 ghost use Rattle.std.specs.Prelude.{◌≡◌, ◌≢◌, ℕ, ◌+◌, ◌<◌, ◌≤◌, ◌^◌, ◌==◌, [], length, IfOk, OnOk, OnErr, IfSome};
-ghost use Rattle.std.specs.Prelude.{IsSomeAnd, MatchOption, map, filter, option_map, slice_get, nat_lt, position, true, Some};
+ghost use Rattle.std.specs.Prelude.{IsSomeAnd, map, filter, option_map, slice_get, nat_lt, position, true, Some};
 ghost use Rattle.std.specs.List.{AllByRecursion, position_or_len};
 ghost use Rattle.minislots.specs.Units.{slots_for};
 ghost use Rattle.sched_calls.specs.FlowSpec.{takes_requests};
 ghost use Rattle.flow_book.specs.Flows.{flow_of, granted, outstanding, with_grant};
-ghost use Rattle.flow_book.specs.Choice.{MayGrant, IsMost, IsAmount, IsNext, IsNextSid, NoneEligible};
+ghost use Rattle.flow_book.specs.Choice.{MayGrant, IsMost, IsAmount, IsNextSid};
 ghost use Rattle.flow_book.specs.Choice.{HasStartedBy};
-ghost use Rattle.flow_book.specs.Entry.{live, IsSoundFlow, IsBook, IsRoom, KeepsSums};
+ghost use Rattle.flow_book.specs.Entry.{live, IsSoundFlow, IsBook, KeepsSums};
 ghost use Rattle.flow_book.specs.Queue.{IsQueue};
 ghost use Rattle.flow_book.specs.Shown.{is_shown, ack_of};
 ghost use Rattle.flow_book.specs.Book.{IsLive, Ascend, KeepsRoom, room_of, new_flow, with_flow, without, changed};
 ghost use Rattle.flow_book.specs.Book.{with_asked, with_replaced, with_spec};
 
 use crate::channel::Channel;
-use crate::flow::{Flow, Room, first_eligible, reserve_each};
+use crate::flow::{Flow, first_eligible, reserve_each};
 use crate::flows::Flows;
 use crate::overlay::Overlay;
-use crate::queue::{Waiting, copy_of, first_in_turn, follow, leave, make_room, make_way, queue_of};
+use crate::queue::{Waiting, copy_of, follow, leave, make_room, make_way, queue_of};
 use crate::shown::Shown;
 use minislots::Checked;
 use sched_calls::FlowSpec;
@@ -63,33 +63,6 @@ fn place_of(flows: &Flows, sid: u16) -> usize
     match flows.place_of(sid) {
         Some(place) => place,
         None => unreachable!(),
-    }
-}
-
-// The place of the flow that the data grant of [`Book::eligible`] goes to.
-fn next_place(
-    queue: &[Waiting],
-    is_queued: bool,
-    flows: &Flows,
-    config: &Checked,
-    start: u64,
-    room: Room,
-) -> Option<usize>
-    requires book { IsBook config.now flows.now }
-    requires queue { is_queued ≡ true → IsQueue flows.now queue.now }
-    requires room { IsRoom config.now room }
-    requires started { AllByRecursion (HasStartedBy start) (map live flows.now) }
-    ensures { MatchOption result (NoneEligible config.now (map live flows.now) start room.slots)
-        (λ place. IsSomeAnd (slice_get (map live flows.now) place)
-        (IsNext config.now (map live flows.now) start room.slots)) }
-{
-    if is_queued {
-        let index = first_in_turn(queue, config, start, room)?;
-        return Some(queue[index].place);
-    }
-    match first_eligible(flows, config, start, room.slots) {
-        Some(flow) => Some(place_of(flows, flow.sid)),
-        None => None,
     }
 }
 
@@ -275,13 +248,8 @@ impl Book {
         requires { AllByRecursion (HasStartedBy start) self.now.flows }
         ensures { IsNextSid self.now.config start room self.now.flows result }
     {
-        let queue = &self.queue;
-        let flows = &self.flows;
-        let config = self.channel.config();
-        let bytes = config.most_in(room);
-        let room = Room { slots: room, bytes };
-        match next_place(queue, self.is_queued, flows, config, start, room) {
-            Some(place) => Some(self.sid_at(place)),
+        match first_eligible(&self.flows, self.channel.config(), start, room) {
+            Some(flow) => Some(flow.sid),
             None => None,
         }
     }

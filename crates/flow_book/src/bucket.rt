@@ -3,6 +3,7 @@
 ghost use Rattle.std.specs.Prelude.{◌≡◌, ◌*◌, ◌/◌, ◌<◌, ◌≤◌, ◌^◌, ◌==◌, [], IsTrue, false, min};
 ghost use Rattle.flow_book.specs.Bucket.{level_of, most_of, StandsFor, AnswersLevel, AnswersCeiling, HasOneMore};
 ghost use Rattle.flow_book.specs.Bucket.{IsSettled, StaysSettled};
+ghost use Rattle.flow_book.specs.Tiers.{unlimited};
 
 use minislots::Checked;
 use std::marker::Model;
@@ -57,6 +58,25 @@ impl Bucket {
             level: full,
             since: 0,
         }
+    }
+
+    // A full bucket of a rate of 0, which holds nothing back.
+    pub(crate) fn unlimited() -> Bucket
+        ensures { result ≡ unlimited }
+    {
+        Bucket {
+            per_slot: 0,
+            full: 0,
+            level: 0,
+            since: 0,
+        }
+    }
+
+    // Whether it holds nothing back.
+    pub(crate) fn is_unlimited(&self) -> bool
+        ensures { result ≡ (self.now.per_slot == 0) }
+    {
+        self.per_slot == 0
     }
 
     // The same bucket again, field by field: it is copied with no stop in memory between.

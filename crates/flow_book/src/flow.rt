@@ -18,6 +18,7 @@ ghost use Rattle.flow_book.specs.Entry.{asked_more, asked_instead};
 ghost use Rattle.flow_book.specs.Queue.{entry_of};
 ghost use Rattle.flow_book.specs.Book.{KeepsRoom, new_flow, has_ceiling_of, has_peak_of, with_spec};
 ghost use Rattle.flow_book.specs.Batches.{since_of};
+ghost use Rattle.flow_book.specs.Tiers.{limits_in};
 ghost use Rattle.flow_book.specs.declared.flow.Flow.{Flow};
 
 use crate::batches::Batches;
@@ -26,6 +27,7 @@ use crate::granted::GrantList;
 use crate::limits::{Limits, peak_of, sustained_of};
 use crate::period::Period;
 use crate::queue::Waiting;
+use crate::tiers::Tier;
 use minislots::Checked;
 use sched_calls::FlowSpec;
 use std::alloc::AllocError;
@@ -268,18 +270,18 @@ impl Flow {
     }
 
     // Gives the flow the data grants that a MAP adds, and what the queue has of it with them.
-    pub(crate) fn take_over(&mut self, waiting: &Waiting, grants: GrantList)
+    pub(crate) fn take_over(&mut self, waiting: &Waiting, tiers: &[Tier], grants: GrantList)
         requires { waiting.now.wants ≤ self.old.asked }
         ensures { self.new ≡ record self.old {
           turn = waiting.now.turn;
           granted = self.old.asked - waiting.now.wants;
-          limits = waiting.now.limits;
+          limits = limits_in tiers.now waiting.now;
           grants = grants;
         } }
     {
         self.turn = waiting.turn;
         self.granted = self.asked - waiting.wants;
-        self.limits = waiting.limits.again();
+        self.limits = waiting.limits(tiers);
         self.grants = grants;
     }
 

@@ -17,6 +17,7 @@ mod period;
 mod queue;
 mod shown;
 mod taking;
+mod tiers;
 
 pub use batches::Batches;
 pub use book::Book;

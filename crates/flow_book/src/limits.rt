@@ -8,7 +8,7 @@ ghost use Rattle.minislots.specs.declared.config.Config.{Config};
 ghost use Rattle.flow_book.specs.Flows.{LiveFlow, with_grant};
 ghost use Rattle.flow_book.specs.Choice.{KeepsWith, HasStartedBy};
 ghost use Rattle.flow_book.specs.Limits.{HasBegunBy, HasPeriods, AreLimitsOf, AreSettled};
-ghost use Rattle.flow_book.specs.Limits.{HaveOneMore, StaySettled, most_in};
+ghost use Rattle.flow_book.specs.Limits.{most_in};
 
 use crate::bucket::Bucket;
 use minislots::Checked;
@@ -34,16 +34,6 @@ impl Limits {
         Limits {
             sustained: sustained_of(config, spec),
             peak: peak_of(config, spec),
-        }
-    }
-
-    // The same again, bucket by bucket.
-    pub(crate) fn again(&self) -> Limits
-        ensures { result ≡ self.now }
-    {
-        Limits {
-            sustained: self.sustained.again(),
-            peak: self.peak.again(),
         }
     }
 
@@ -75,21 +65,6 @@ impl Limits {
     {
         let _ = self.sustained.take(slot, bytes);
         let _ = self.peak.take(slot, bytes);
-    }
-
-    // Takes a grant of the most bytes, up to the limit, that keeps both ceilings and starts at this minislot, and
-    // answers how many they are.
-    pub(crate) fn take_most(&mut self, slot: u64, limit: u32) -> u32
-        requires { HasBegunBy slot self.old }
-        ensures most { result ≡ most_in self.old slot limit }
-        ensures taken { HaveOneMore self.old self.new slot result }
-        ensures settled { StaySettled self.old self.new slot result }
-        ensures begun { HasBegunBy slot self.new }
-    {
-        let limit = self.peak.most(slot, limit);
-        let bytes = self.sustained.take_most(slot, limit);
-        self.peak.spend(slot, bytes);
-        bytes
     }
 }
 

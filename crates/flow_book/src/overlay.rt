@@ -18,6 +18,7 @@ use crate::parts::serve_first;
 use crate::queue::Waiting;
 use crate::shown::{Shown, show};
 use crate::taking::{merge, put_back, take_over};
+use crate::tiers::{Tier, tiers_of};
 use minislots::Checked;
 use std::alloc::AllocError;
 use std::marker::Model;
@@ -49,6 +50,8 @@ pub struct Overlay {
     first: usize,
     // Where many waited those that the MAP served, with what they still want, by their turns.
     served: Vec<Waiting>,
+    // The tiers of both.
+    tiers: Vec<Tier>,
     is_long: bool,
     // The live flows before the MAP, and with its data grants, for contracts alone.
     before: FlowList,
@@ -71,7 +74,7 @@ impl Model for Overlay {
 
     ghost invariant = { λ o.
         IsOverlay o.channel o.before.items o.flows.items o.is_long o.queue.items o.served.items
-        (vec_capacity o.served) o.first };
+        o.tiers.items (vec_capacity o.served) o.first };
 }
 
 impl Overlay {
@@ -89,6 +92,8 @@ impl Overlay {
           flows = map live flows.now;
         }) }
     {
+        let mut queue = queue;
+        let tiers = tiers_of(*queue.allocator(), &mut queue, flows)?;
         let is_long = queue.len() > FEW;
         let served = room_for_served(&queue, is_long)?;
         let before = list_of(flows);
@@ -97,6 +102,7 @@ impl Overlay {
             queue,
             first: 0,
             served,
+            tiers,
             is_long,
             flows: FlowList::same(&before),
             before,
@@ -134,6 +140,7 @@ impl Overlay {
             &mut self.queue,
             &mut self.first,
             &mut self.served,
+            &mut self.tiers,
             self.is_long,
             config,
             start,
@@ -171,10 +178,10 @@ impl Overlay {
         ensures order { result ≡ true → IsQueue flows.new queue.new.items }
     {
         if self.is_long {
-            take_over(flows, &self.served, &self.flows);
+            take_over(flows, &self.served, &self.tiers, &self.flows);
             return merge(queue, &self.queue, &self.served).is_ok();
         }
-        take_over(flows, &self.queue, &self.flows);
+        take_over(flows, &self.queue, &self.tiers, &self.flows);
         put_back(queue, &self.queue).is_ok()
     }
 }

@@ -10,6 +10,7 @@ ghost use Rattle.flow_book.specs.declared.queue.Waiting.{Waiting};
 ghost use Rattle.flow_book.specs.Choice.{NoneEligible};
 ghost use Rattle.flow_book.specs.Entry.{live, IsRoom};
 ghost use Rattle.flow_book.specs.Limits.{HasBegunBy};
+ghost use Rattle.flow_book.specs.Tiers.{limits_in};
 ghost use Rattle.sched_calls.specs.Sids.{AscendBy, put_in};
 ghost use Rattle.flow_book.specs.Queue.{IsOrderIn, IsQueueIn, IsShortQueue, HasRoom, NoneWaitsBefore, still_waits};
 ghost use Rattle.flow_book.specs.declared.parts.Standing.TheVariants.{Queued};
@@ -17,6 +18,7 @@ ghost use Rattle.flow_book.specs.Parts.{one_at, HasStartedIn, IsAheadOf, IsNextI
 
 use crate::flow::{Room, Served};
 use crate::queue::{Waiting, first_able, move_back, place_after, put_on};
+use crate::tiers::Tier;
 use minislots::Checked;
 
 // Where one stands that waits: in the queue, or among those that the MAP served.
@@ -55,24 +57,25 @@ fn first_of(
     queue: &[Waiting],
     first: usize,
     served: &[Waiting],
+    tiers: &[Tier],
     config: &Checked,
     start: u64,
     room: Room,
 ) -> Option<Standing>
     requires room { IsRoom config.now room }
     requires passed { NoneWaitsBefore first queue.now }
-    requires started { (items : List Flow) × HasStartedIn config.now items queue.now served.now start }
-    ensures next { (items : List Flow) → HasStartedIn config.now items queue.now served.now start
+    requires started { (items : List Flow) × HasStartedIn config.now items tiers.now queue.now served.now start }
+    ensures next { (items : List Flow) → HasStartedIn config.now items tiers.now queue.now served.now start
         → MatchOption result (NoneEligible config.now (map live items) start room.slots)
         (IsNextIn config.now items queue.now served.now start room.slots) }
     ensures lawful { IsLawful config.now }
 {
-    let queued = first_able(queue, first, config, start, room);
+    let queued = first_able(queue, first, tiers, config, start, room);
     if served.is_empty() {
         return in_queue(queued);
     }
     let ahead = ahead_of(queue, queued, served);
-    if let Some(index) = first_able(&served[..ahead], 0, config, start, room) {
+    if let Some(index) = first_able(&served[..ahead], 0, tiers, config, start, room) {
         return Some(Standing::Served(index));
     }
     in_queue(queued)
@@ -110,7 +113,7 @@ fn put_queued(queue: &mut Vec<Waiting>, served: &mut Vec<Waiting>, index: usize,
     ensures put { (items : List Flow) (w : Waiting)
         → IsQueueIn items queue.old.items served.old.items → slice_get queue.old.items index ≡ Some w
         → still_waits w ≡ true → w.place ≡ waiting.place
-        → IsPutIn items waiting served.old.items queue.new.items served.new.items }
+        → IsPutIn items waiting queue.old.items served.old.items queue.new.items served.new.items }
     ensures passed { (first : ℕ) → NoneWaitsBefore first queue.old.items → NoneWaitsBefore first queue.new.items }
     ensures room { HasRoom true queue.new.items served.new.items (vec_capacity served.new) }
 {
@@ -132,7 +135,7 @@ fn put_served(
     ensures put { (items : List Flow) (w : Waiting)
         → IsQueueIn items queue.old.items served.old.items
         → one_at standing queue.old.items served.old.items ≡ Some w → still_waits w ≡ true → w.place ≡ waiting.place
-        → IsPutIn items waiting served.old.items queue.new.items served.new.items }
+        → IsPutIn items waiting queue.old.items served.old.items queue.new.items served.new.items }
     ensures passed { (first : ℕ) → NoneWaitsBefore first queue.old.items → NoneWaitsBefore first queue.new.items }
     ensures room { HasRoom true queue.new.items served.new.items (vec_capacity served.new) }
 {
@@ -155,12 +158,12 @@ fn first_waiting(queue: &[Waiting], first: usize) -> usize
 }
 
 // Grants one that waits, at this minislot, the most bytes that it may have of so many, and answers to whom they went.
-fn serve_one(waiting: &mut Waiting, start: u64, most: u64) -> Served
-    requires begun { HasBegunBy start waiting.old.limits }
+fn serve_one(waiting: &mut Waiting, tiers: &mut Vec<Tier>, start: u64, most: u64) -> Served
+    requires begun { HasBegunBy start (limits_in tiers.old.items waiting.old) }
     requires most { most < 2 ^ 32 }
-    ensures { IsGranted waiting.old waiting.new start most result.sid result.bytes }
+    ensures { IsGranted tiers.old.items tiers.new.items waiting.old waiting.new start most result.sid result.bytes }
 {
-    let bytes = waiting.serve(start, most);
+    let bytes = waiting.serve(tiers, start, most);
     Served {
         sid: waiting.sid(),
         bytes,
@@ -180,21 +183,27 @@ fn put_short(queue: &mut Vec<Waiting>, index: usize, waiting: Waiting)
 }
 
 // Serves the first that may be served where few wait.
-fn serve_short(queue: &mut Vec<Waiting>, config: &Checked, start: u64, room: Room) -> Option<Served>
+fn serve_short(
+    queue: &mut Vec<Waiting>,
+    tiers: &mut Vec<Tier>,
+    config: &Checked,
+    start: u64,
+    room: Room,
+) -> Option<Served>
     requires room { IsRoom config.now room }
     requires started { (items : List Flow) × IsShortQueue items queue.old.items
-        × HasStartedIn config.now items queue.old.items [] start }
+        × HasStartedIn config.now items tiers.old.items queue.old.items [] start }
     ensures next { (items : List Flow) → IsShortQueue items queue.old.items
-        → HasStartedIn config.now items queue.old.items [] start
+        → HasStartedIn config.now items tiers.old.items queue.old.items [] start
         → MatchOption result (NoneEligible config.now (map live items) start room.slots)
-        (λ s. IsServedFirst config.now false items queue.old.items [] queue.new.items [] start room.slots room.bytes
-        s.sid s.bytes) }
-    ensures none { result ≡ None → queue.new ≡ queue.old }
+        (λ s. IsServedFirst config.now false items tiers.old.items tiers.new.items queue.old.items [] queue.new.items []
+        start room.slots room.bytes s.sid s.bytes) }
+    ensures none { result ≡ None → (queue.new ≡ queue.old) × (tiers.new ≡ tiers.old) }
     ensures lawful { IsLawful config.now }
 {
-    let index = first_able(queue, 0, config, start, room)?;
+    let index = first_able(queue, 0, tiers, config, start, room)?;
     let mut waiting = queue[index];
-    let granted = serve_one(&mut waiting, start, room.bytes);
+    let granted = serve_one(&mut waiting, tiers, start, room.bytes);
     put_short(queue, index, waiting);
     Some(granted)
 }
@@ -205,6 +214,7 @@ fn serve_long(
     queue: &mut Vec<Waiting>,
     first: &mut usize,
     served: &mut Vec<Waiting>,
+    tiers: &mut Vec<Tier>,
     config: &Checked,
     start: u64,
     room: Room,
@@ -212,19 +222,21 @@ fn serve_long(
     requires room { IsRoom config.now room }
     requires passed { NoneWaitsBefore first.old queue.old.items }
     requires reserved { HasRoom true queue.old.items served.old.items (vec_capacity served.old) }
-    requires started { (items : List Flow) × HasStartedIn config.now items queue.old.items served.old.items start }
-    ensures next { (items : List Flow) → HasStartedIn config.now items queue.old.items served.old.items start
+    requires started { (items : List Flow)
+        × HasStartedIn config.now items tiers.old.items queue.old.items served.old.items start }
+    ensures next { (items : List Flow) → HasStartedIn config.now items tiers.old.items queue.old.items served.old.items start
         → MatchOption result (NoneEligible config.now (map live items) start room.slots)
-        (λ s. IsServedFirst config.now true items queue.old.items served.old.items queue.new.items served.new.items start
-        room.slots room.bytes s.sid s.bytes) }
-    ensures none { result ≡ None → (queue.new ≡ queue.old) × (served.new ≡ served.old) }
+        (λ s. IsServedFirst config.now true items tiers.old.items tiers.new.items queue.old.items served.old.items
+        queue.new.items served.new.items start room.slots room.bytes s.sid s.bytes) }
+    ensures none { result ≡ None
+        → (queue.new ≡ queue.old) × (served.new ≡ served.old) × (tiers.new ≡ tiers.old) }
     ensures passed { NoneWaitsBefore first.new queue.new.items }
     ensures reserved { HasRoom true queue.new.items served.new.items (vec_capacity served.new) }
     ensures lawful { IsLawful config.now }
 {
-    let standing = first_of(queue, *first, served, config, start, room)?;
+    let standing = first_of(queue, *first, served, tiers, config, start, room)?;
     let mut waiting = one_at(queue, served, standing);
-    let granted = serve_one(&mut waiting, start, room.bytes);
+    let granted = serve_one(&mut waiting, tiers, start, room.bytes);
     put_served(queue, served, standing, waiting);
     *first = first_waiting(queue, *first);
     Some(granted)
@@ -236,6 +248,7 @@ pub(crate) fn serve_first(
     queue: &mut Vec<Waiting>,
     first: &mut usize,
     served: &mut Vec<Waiting>,
+    tiers: &mut Vec<Tier>,
     is_long: bool,
     config: &Checked,
     start: u64,
@@ -245,19 +258,20 @@ pub(crate) fn serve_first(
     requires passed { is_long ≡ true → NoneWaitsBefore first.old queue.old.items }
     requires reserved { HasRoom is_long queue.old.items served.old.items (vec_capacity served.old) }
     requires started { (items : List Flow) × IsOrderIn is_long items queue.old.items served.old.items
-        × HasStartedIn config.now items queue.old.items served.old.items start }
+        × HasStartedIn config.now items tiers.old.items queue.old.items served.old.items start }
     ensures next { (items : List Flow) → IsOrderIn is_long items queue.old.items served.old.items
-        → HasStartedIn config.now items queue.old.items served.old.items start
+        → HasStartedIn config.now items tiers.old.items queue.old.items served.old.items start
         → MatchOption result (NoneEligible config.now (map live items) start room.slots)
-        (λ s. IsServedFirst config.now is_long items queue.old.items served.old.items queue.new.items served.new.items
-        start room.slots room.bytes s.sid s.bytes) }
-    ensures none { result ≡ None → (queue.new ≡ queue.old) × (served.new ≡ served.old) }
+        (λ s. IsServedFirst config.now is_long items tiers.old.items tiers.new.items queue.old.items served.old.items
+        queue.new.items served.new.items start room.slots room.bytes s.sid s.bytes) }
+    ensures none { result ≡ None
+        → (queue.new ≡ queue.old) × (served.new ≡ served.old) × (tiers.new ≡ tiers.old) }
     ensures passed { is_long ≡ true → NoneWaitsBefore first.new queue.new.items }
     ensures reserved { HasRoom is_long queue.new.items served.new.items (vec_capacity served.new) }
     ensures lawful { IsLawful config.now }
 {
     if is_long {
-        return serve_long(queue, first, served, config, start, room);
+        return serve_long(queue, first, served, tiers, config, start, room);
     }
-    serve_short(queue, config, start, room)
+    serve_short(queue, tiers, config, start, room)
 }

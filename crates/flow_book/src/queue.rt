@@ -8,28 +8,32 @@ ghost use Rattle.minislots.specs.declared.config.Config.{Config};
 ghost use Rattle.minislots.specs.Config.{IsLawful};
 ghost use Rattle.flow_book.specs.declared.flow.Flow.{Flow};
 ghost use Rattle.flow_book.specs.Flows.{granted, outstanding};
-ghost use Rattle.flow_book.specs.Choice.{NoneEligible};
 ghost use Rattle.flow_book.specs.Limits.{HasBegunBy, HaveOneMore, StaySettled, most_in};
 ghost use Rattle.flow_book.specs.Entry.{live, IsBook, IsRoom, IsTurn};
 ghost use Rattle.sched_calls.specs.Sids.{AscendBy, put_in};
 ghost use Rattle.flow_book.specs.Queue.{IsQueue, IsQueueAmong, IsMoved, AreSameBut, moved_up, moved_down};
-ghost use Rattle.flow_book.specs.Queue.{HasStartedQueue, HasStartedPart, IsFirstInTurn, IsFirstAble, IsPassed};
+ghost use Rattle.flow_book.specs.Queue.{HasStartedPart, IsFirstAble, IsPassed};
+ghost use Rattle.flow_book.specs.Tiers.{IsSpent, limits_in};
+ghost use Rattle.flow_book.specs.declared.tiers.TheConstants.{NO_TIER as NONE};
 ghost use Rattle.flow_book.specs.Queue.{NoneWaitsBefore, StandsBehind, is_passed, still_waits};
 
+use crate::bucket::Bucket;
 use crate::flow::{Flow, Room, SIDS, turn_after};
 use crate::flows::Flows;
 use crate::limits::Limits;
+use crate::tiers::{NO_TIER, Tier};
 use minislots::Checked;
 use std::alloc::{AllocError, Global};
 
-// A flow that waits for bytes: its turn, the bytes that it waits for, its place among the flows, and what its ceilings
-// leave to it.
+// A flow that waits for bytes: its turn, the bytes that it waits for, its place among the flows, the number of its tier,
+// none where it has no peak rate, and what its maximum sustained rate leaves to it.
 #[derive(Clone, Copy)]
 pub(crate) struct Waiting {
     pub(crate) turn: u128,
     pub(crate) wants: u64,
-    pub(crate) place: usize,
-    pub(crate) limits: Limits,
+    pub(crate) place: u32,
+    pub(crate) tier: u32,
+    pub(crate) sustained: Bucket,
 }
 
 impl Waiting {
@@ -40,23 +44,70 @@ impl Waiting {
         (self.turn % SIDS) as u16
     }
 
+    // What its ceilings leave to it.
+    pub(crate) fn limits(&self, tiers: &[Tier]) -> Limits
+        ensures { result ≡ limits_in tiers.now self.now }
+    {
+        let tier = self.tier as usize;
+        let peak = if tier < tiers.len() {
+            tiers[tier].peak.again()
+        } else {
+            Bucket::unlimited()
+        };
+        Limits {
+            sustained: self.sustained.again(),
+            peak,
+        }
+    }
+
+    // Whether a grant of so many bytes that starts at this minislot keeps its ceilings.
+    fn has(&self, tiers: &[Tier], slot: u64, bytes: u32) -> bool
+        requires { HasBegunBy slot (limits_in tiers.now self.now) }
+        ensures { result ≡ (most_in (limits_in tiers.now self.now) slot bytes == bytes) }
+    {
+        let tier = self.tier as usize;
+        self.sustained.has(slot, bytes)
+            && (tier >= tiers.len() || tiers[tier].peak.has(slot, bytes))
+    }
+
+    // Takes the most bytes, up to the limit, that keep its ceilings in a grant that starts at this minislot, and answers
+    // how many they are.
+    fn take_most(&mut self, tiers: &mut Vec<Tier>, slot: u64, limit: u32) -> u32
+        requires { HasBegunBy slot (limits_in tiers.old.items self.old) }
+        ensures same { self.new ≡ record self.old { sustained = self.new.sustained } }
+        ensures most { result ≡ most_in (limits_in tiers.old.items self.old) slot limit }
+        ensures taken { HaveOneMore (limits_in tiers.old.items self.old) (limits_in tiers.new.items self.new) slot result }
+        ensures settled { StaySettled (limits_in tiers.old.items self.old) (limits_in tiers.new.items self.new) slot result }
+        ensures spent { IsSpent tiers.old.items tiers.new.items self.old self.new }
+    {
+        let tier = self.tier as usize;
+        if tier >= tiers.len() {
+            return self.sustained.take_most(slot, limit);
+        }
+        let peak = &mut tiers[tier].peak;
+        let bytes = self.sustained.take_most(slot, peak.most(slot, limit));
+        peak.spend(slot, bytes);
+        bytes
+    }
+
     // Grants the flow, from this minislot on, the most bytes that it may have of so many at most, and answers how many
     // they are.
-    pub(crate) fn serve(&mut self, start: u64, most: u64) -> u32
-        requires begun { HasBegunBy start self.old.limits }
+    pub(crate) fn serve(&mut self, tiers: &mut Vec<Tier>, start: u64, most: u64) -> u32
+        requires begun { HasBegunBy start (limits_in tiers.old.items self.old) }
         requires most { most < 2 ^ 32 }
-        ensures bytes { result ≡ most_in self.old.limits start (min self.old.wants most) }
+        ensures bytes { result ≡ most_in (limits_in tiers.old.items self.old) start (min self.old.wants most) }
         ensures wants { self.new.wants + result ≡ self.old.wants }
         ensures place { self.new.place ≡ self.old.place }
-        ensures limits { HaveOneMore self.old.limits self.new.limits start result }
-        ensures settled { StaySettled self.old.limits self.new.limits start result }
+        ensures limits { HaveOneMore (limits_in tiers.old.items self.old) (limits_in tiers.new.items self.new) start result }
+        ensures settled { StaySettled (limits_in tiers.old.items self.old) (limits_in tiers.new.items self.new) start result }
+        ensures spent { IsSpent tiers.old.items tiers.new.items self.old self.new }
         ensures turn { (rank : ℕ) (last : Option ℕ) (sid : ℕ)
             → IsTurn rank last sid self.old.turn → IsTurn rank (Some start) sid self.new.turn }
         ensures later { (rank : ℕ) (last : Option ℕ) (sid : ℕ) → IsTurn rank last sid self.old.turn
             → IfSome last (λ m. m ≤ start) → self.old.turn ≤ self.new.turn }
     {
         let limit = self.wants.min(most) as u32;
-        let bytes = self.limits.take_most(start, limit);
+        let bytes = self.take_most(tiers, start, limit);
         self.wants -= u64::from(bytes);
         self.turn = turn_after(self.turn, start);
         bytes
@@ -76,7 +127,9 @@ pub(crate) fn place_after(queue: &[Waiting], turn: u128) -> usize
 fn index_of(queue: &[Waiting], place: usize) -> Option<usize>
     ensures { result ≡ position (λ w. w.place == place) queue.now }
 {
-    queue.iter().position(|waiting| waiting.place == place)
+    queue
+        .iter()
+        .position(|waiting| waiting.place as usize == place)
 }
 
 // Puts one that waits into the queue, before the first of a later turn.
@@ -105,37 +158,20 @@ pub(crate) fn queue_of(alloc: Global, flows: &Flows) -> Result<Vec<Waiting>, All
     Ok(queue)
 }
 
-// Where in the queue the flow stands that is served first at this minislot, of those that may be served.
-pub(crate) fn first_in_turn(
-    queue: &[Waiting],
-    config: &Checked,
-    start: u64,
-    room: Room,
-) -> Option<usize>
-    requires room { IsRoom config.now room }
-    requires started { (items : List Flow) × HasStartedQueue config.now items queue.now start }
-    ensures next { (items : List Flow) → HasStartedQueue config.now items queue.now start
-        → MatchOption result (NoneEligible config.now (map live items) start room.slots)
-        (IsFirstInTurn config.now items queue.now start room.slots) }
-    ensures within { IfSome result (λ index. index < length queue.now) }
-    ensures lawful { IsLawful config.now }
-{
-    first_able(queue, 0, config, start, room)
-}
-
 // Where in a list of those that wait, of which none before the first place wants anything, the first stands that may be
 // served at this minislot.
 pub(crate) fn first_able(
     queue: &[Waiting],
     first: usize,
+    tiers: &[Tier],
     config: &Checked,
     start: u64,
     room: Room,
 ) -> Option<usize>
     requires room { IsRoom config.now room }
     requires passed { NoneWaitsBefore first queue.now }
-    requires started { (items : List Flow) × HasStartedPart config.now items queue.now start }
-    ensures next { (items : List Flow) → HasStartedPart config.now items queue.now start → MatchOption result
+    requires started { (items : List Flow) × HasStartedPart config.now items tiers.now queue.now start }
+    ensures next { (items : List Flow) → HasStartedPart config.now items tiers.now queue.now start → MatchOption result
         (AllByRecursion (IsPassed config.now start room.slots items) (filter still_waits queue.now))
         (IsFirstAble config.now items queue.now start room.slots) }
     ensures within { IfSome result (λ index. index < length queue.now) }
@@ -145,7 +181,7 @@ pub(crate) fn first_able(
     for index in first..queue.len() {
         let waiting = &queue[index];
         let wanted = waiting.wants.min(quantum);
-        if wanted > 0 && wanted <= room.bytes && waiting.limits.has(start, wanted as u32) {
+        if wanted > 0 && wanted <= room.bytes && waiting.has(tiers, start, wanted as u32) {
             return Some(index);
         }
     }
@@ -212,7 +248,8 @@ fn move_to_turn(queue: &mut Vec<Waiting>, waiting: Waiting) -> Result<(), AllocE
     ensures { OnOk result ((items : List Flow) → IsQueue items queue.old.items
         → IsMoved items waiting queue.new.items) }
 {
-    let Some(index) = index_of(queue, waiting.place) else {
+    let place = waiting.place as usize;
+    let Some(index) = index_of(queue, place) else {
         put_in_turn(queue, waiting)?;
         return Ok(());
     };
@@ -220,7 +257,7 @@ fn move_to_turn(queue: &mut Vec<Waiting>, waiting: Waiting) -> Result<(), AllocE
         move_back(queue, index, waiting);
         return Ok(());
     }
-    take_out(queue, waiting.place);
+    take_out(queue, place);
     put_in_turn(queue, waiting)?;
     Ok(())
 }
@@ -246,16 +283,24 @@ fn put_again(queue: &mut Vec<Waiting>, flows: &Flows, place: usize) -> Result<()
 pub(crate) fn waiting_of(flow: &Flow, place: usize) -> Waiting
     requires sum { flow.now.granted ≡ granted (live flow.now) }
     requires within { granted (live flow.now) ≤ flow.now.asked }
+    requires place { place < 2 ^ 32 }
     ensures turn { result.turn ≡ flow.now.turn }
     ensures wants { result.wants ≡ outstanding (live flow.now) }
     ensures place { result.place ≡ place }
-    ensures limits { result.limits ≡ flow.now.limits }
+    ensures sustained { result.sustained ≡ flow.now.limits.sustained }
+    ensures tier { (result.tier == NONE) ≡ (flow.now.limits.peak.per_slot == 0) }
 {
+    let limits = &flow.limits;
     Waiting {
         turn: flow.turn,
         wants: flow.outstanding(),
-        place,
-        limits: flow.limits.again(),
+        place: place as u32,
+        tier: if limits.peak.is_unlimited() {
+            NO_TIER
+        } else {
+            0
+        },
+        sustained: limits.sustained.again(),
     }
 }
 
@@ -271,11 +316,11 @@ fn take_out(queue: &mut Vec<Waiting>, place: usize)
 
 // Moves the places up for a flow that is put in at this place: each from there on is one more.
 fn move_up(queue: &mut [Waiting], place: usize)
-    requires { AllByRecursion (λ w. w.place + 1 < 2 ^ 64) queue.old }
+    requires { AllByRecursion (λ w. w.place + 1 < 2 ^ 32) queue.old }
     ensures { queue.new ≡ map (moved_up place) queue.old }
 {
     for waiting in queue.iter_mut() {
-        if place <= waiting.place {
+        if place <= waiting.place as usize {
             waiting.place += 1;
         }
     }
@@ -284,7 +329,7 @@ fn move_up(queue: &mut [Waiting], place: usize)
 // Makes way in a queue that is known for a flow that is put in at this place and waits for nothing.
 pub(crate) fn make_way(queue: &mut Vec<Waiting>, is_queued: bool, place: usize)
     requires { is_queued ≡ true → (items : List Flow)
-        × IsQueue items queue.old.items × (length items + 1 < 2 ^ 64) }
+        × IsQueue items queue.old.items × (length items + 1 < 2 ^ 32) }
     ensures { (items : List Flow) (f : Flow) → is_queued ≡ true → IsQueue items queue.old.items
         → place ≤ length items → outstanding (live f) ≡ 0
         → IsQueue (insert items place f) queue.new.items }
@@ -299,7 +344,7 @@ fn move_down(queue: &mut [Waiting], place: usize)
     ensures { queue.new ≡ map (moved_down place) queue.old }
 {
     for waiting in queue.iter_mut() {
-        if place < waiting.place {
+        if place < waiting.place as usize {
             waiting.place -= 1;
         }
     }

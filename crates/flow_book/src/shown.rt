@@ -46,7 +46,7 @@ fn number_of(since: u64, sid: u16) -> u128
 fn number_at(waiting: &Waiting, flows: &Flows) -> u128
     ensures { result ≡ number_at flows.now waiting.now }
 {
-    match flows.get(waiting.place) {
+    match flows.get(waiting.place as usize) {
         Some(flow) => number_of(flow.since_with(waiting.wants), flow.sid),
         None => 0,
     }

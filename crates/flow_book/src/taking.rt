@@ -12,18 +12,20 @@ ghost use Rattle.flow_book.specs.Taking.{CanBeTaken, IsTaken, AreMerged, AreApar
 use crate::flow_list::FlowList;
 use crate::flows::Flows;
 use crate::queue::Waiting;
+use crate::tiers::Tier;
 use std::alloc::AllocError;
 
 // Gives each flow that a MAP served the data grants that it has after it, and what is kept of it.
-pub(crate) fn take_over(flows: &mut Flows, served: &[Waiting], after: &FlowList)
+pub(crate) fn take_over(flows: &mut Flows, served: &[Waiting], tiers: &[Tier], after: &FlowList)
     requires { (c : Config) × (items : List Flow)
-        × CanBeTaken c flows.old items served.now × (map live items ≡ after.now.items) }
-    ensures { (c : Config) (items : List Flow) → CanBeTaken c flows.old items served.now
+        × CanBeTaken c flows.old items tiers.now served.now × (map live items ≡ after.now.items) }
+    ensures { (c : Config) (items : List Flow) → CanBeTaken c flows.old items tiers.now served.now
         → map live items ≡ after.now.items → IsTaken c flows.new items }
 {
     for waiting in served {
-        let flow = flows.at_mut(waiting.place);
-        flow.take_over(waiting, FlowList::grants_at(after, &waiting.place));
+        let place = waiting.place as usize;
+        let flow = flows.at_mut(place);
+        flow.take_over(waiting, tiers, FlowList::grants_at(after, &place));
     }
 }
 

@@ -7,7 +7,7 @@ use Rattle.flow_book.proofs.parts.first_of.Goals as goal
 pub first_able-queued-requires-clause-started : goal.first_able-queued-requires-clause-started
 first_able-queued-requires-clause-started c = (
   c.requires.started.0,
-  queued-part c.args.config.now c.requires.started.0 c.args.queue.now c.args.served.now c.args.start c.args.room.slots
+  queued-part c.args.config.now c.requires.started.0 c.args.tiers.now c.args.queue.now c.args.served.now c.args.start c.args.room.slots
       c.requires.started.1,
 )
 
@@ -17,9 +17,9 @@ returns-then-is_empty-clause-next c = λ items has.
     let none : length c.args.served.now ≡ 0 =
     let e = sym c.is_empty.ensures ∙ c.if-is_empty.true in grind (arith, nat_tests, e) in
     rw c.in_queue.ensures
-    (alone-next config items c.args.queue.now c.args.served.now c.args.start c.args.room.slots has
+    (alone-next config items c.args.tiers.now c.args.queue.now c.args.served.now c.args.start c.args.room.slots has
     c.first_able-queued.result none
-    (c.first_able-queued.ensures.next items (queued-part config items c.args.queue.now c.args.served.now c.args.start
+    (c.first_able-queued.ensures.next items (queued-part config items c.args.tiers.now c.args.queue.now c.args.served.now c.args.start
     c.args.room.slots has)))
 
 pub ahead_of-ahead-requires-clause-ascending : goal.ahead_of-ahead-requires-clause-ascending
@@ -28,7 +28,7 @@ ahead_of-ahead-requires-clause-ascending c = c.requires.started.1.order.served_o
 pub first_able-requires-clause-started : goal.first_able-requires-clause-started
 first_able-requires-clause-started c = (
   c.requires.started.0,
-  served-part c.args.config.now c.requires.started.0 c.args.queue.now c.args.served.now c.args.start c.args.room.slots
+  served-part c.args.config.now c.requires.started.0 c.args.tiers.now c.args.queue.now c.args.served.now c.args.start c.args.room.slots
       c.requires.started.1 c.ahead_of-ahead.result,
 )
 
@@ -40,10 +40,10 @@ returns-in-Some-clause-next c = λ items has.
     let start = c.args.start in
     let room = c.args.room.slots in
     let ahead = c.ahead_of-ahead.result in
-    again-next config items queue served start room has ahead c.in-Some.index c.first_able-queued.result
-    (c.first_able-queued.ensures.next items (queued-part config items queue served start room has))
+    again-next config items c.args.tiers.now queue served start room has ahead c.in-Some.index c.first_able-queued.result
+    (c.first_able-queued.ensures.next items (queued-part config items c.args.tiers.now queue served start room has))
     c.ahead_of-ahead.ensures.ahead
-    (c.in-Some.ensures.next items (served-part config items queue served start room has ahead))
+    (c.in-Some.ensures.next items (served-part config items c.args.tiers.now queue served start room has ahead))
 
 pub returns-clause-next : goal.returns-clause-next
 returns-clause-next c = λ items has.
@@ -54,7 +54,7 @@ returns-clause-next c = λ items has.
     let room = c.args.room.slots in
     let ahead = c.ahead_of-ahead.result in
     rw c.in_queue-2.ensures
-    (queued-next config items queue served start room has ahead c.first_able-queued.result
-    (c.first_able-queued.ensures.next items (queued-part config items queue served start room has))
+    (queued-next config items c.args.tiers.now queue served start room has ahead c.first_able-queued.result
+    (c.first_able-queued.ensures.next items (queued-part config items c.args.tiers.now queue served start room has))
     c.ahead_of-ahead.ensures.ahead
-    (c.in_default.ensures.next items (served-part config items queue served start room has ahead)))
+    (c.in_default.ensures.next items (served-part config items c.args.tiers.now queue served start room has ahead)))

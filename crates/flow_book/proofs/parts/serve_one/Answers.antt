@@ -10,6 +10,7 @@ returns c =
       place = s.place;
       limits = s.limits;
       settled = s.settled;
+      tier = s.spent;
       turn = s.turn;
       later = s.later;
       is = c.sid.ensures;

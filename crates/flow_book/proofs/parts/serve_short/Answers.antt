@@ -16,10 +16,11 @@ pub returns-in_err-index-clause-next : goal.returns-in_err-index-clause-next
 returns-in_err-index-clause-next c = λ items short has.
     let config = c.args.config.now in
     let queue = c.args.queue.now.items in
-    let part = queued-part config items queue [] c.args.start c.args.room.slots has in
+    let tiers = c.args.tiers.now.items in
+    let part = queued-part config items tiers queue [] c.args.start c.args.room.slots has in
     rw c.from_residual.ensures
-    (alone-next config items queue [] c.args.start c.args.room.slots has None refl
-    ((rw c.deref.ensures.value at c.in_err-index.ensures.next) items part))
+    (alone-next config items tiers queue [] c.args.start c.args.room.slots has None refl
+    ((rw (c.deref.ensures.value, c.deref-2.ensures.value) at c.in_err-index.ensures.next) items part))
 
 pub serve_one-granted-requires-clause-begun : goal.serve_one-granted-requires-clause-begun
 serve_one-granted-requires-clause-begun c =
@@ -29,13 +30,14 @@ serve_one-granted-requires-clause-begun c =
     let queue = c.args.queue.now.items in
     let slots = c.args.room.slots in
     let index = c.in_ok-index.index in
-    let part = queued-part config items queue [] c.args.start slots has in
+    let tiers = c.args.tiers.now.items in
+    let part = queued-part config items tiers queue [] c.args.start slots has in
     let is =
-    alone-next config items queue [] c.args.start slots has (Some index) refl
-    ((rw c.deref.ensures.value at c.in_ok-index.ensures.next) items part) in
+    alone-next config items tiers queue [] c.args.start slots has (Some index) refl
+    ((rw (c.deref.ensures.value, c.deref-2.ensures.value) at c.in_ok-index.ensures.next) items part) in
     let here =
     read-here queue index c.index.result.now (rw c.deref.ensures.value at c.in_ok-index.ensures.within) c.index.ensures in
-    next-begun config items queue [] c.args.start slots (Queued index) c.index.result.now has is here
+    next-begun config items tiers queue [] c.args.start slots (Queued index) c.index.result.now has is here
 
 pub serve_one-granted-requires-clause-most : goal.serve_one-granted-requires-clause-most
 serve_one-granted-requires-clause-most c =
@@ -51,15 +53,16 @@ put_short-requires-clause-here c =
     let slots = c.args.room.slots in
     let index = c.in_ok-index.index in
     let w = c.index.result.now in
-    let part = queued-part config items queue [] c.args.start slots has in
+    let tiers = c.args.tiers.now.items in
+    let part = queued-part config items tiers queue [] c.args.start slots has in
     let is =
-    alone-next config items queue [] c.args.start slots has (Some index) refl
-    ((rw c.deref.ensures.value at c.in_ok-index.ensures.next) items part) in
+    alone-next config items tiers queue [] c.args.start slots has (Some index) refl
+    ((rw (c.deref.ensures.value, c.deref-2.ensures.value) at c.in_ok-index.ensures.next) items part) in
     let here =
     read-here queue index w (rw c.deref.ensures.value at c.in_ok-index.ensures.within) c.index.ensures in
     let waits = next-waits config items queue [] c.args.start slots (Queued index) w here is in
     let late =
-    next-later config items queue [] c.args.start slots (Queued index) w has is here
+    next-later config items tiers queue [] c.args.start slots (Queued index) w has is here
     c.serve_one-granted.new.waiting.turn c.serve_one-granted.ensures.later in
     (w, here, waits, late)
 
@@ -70,10 +73,11 @@ returns-clause-next c = λ items short has.
     let slots = c.args.room.slots in
     let index = c.in_ok-index.index in
     let w = c.index.result.now in
-    let part = queued-part config items queue [] c.args.start slots has in
+    let tiers = c.args.tiers.now.items in
+    let part = queued-part config items tiers queue [] c.args.start slots has in
     let is =
-    alone-next config items queue [] c.args.start slots has (Some index) refl
-    ((rw c.deref.ensures.value at c.in_ok-index.ensures.next) items part) in
+    alone-next config items tiers queue [] c.args.start slots has (Some index) refl
+    ((rw (c.deref.ensures.value, c.deref-2.ensures.value) at c.in_ok-index.ensures.next) items part) in
     let here =
     read-here queue index w (rw c.deref.ensures.value at c.in_ok-index.ensures.within) c.index.ensures in
     let waits = next-waits config items queue [] c.args.start slots (Queued index) w here is in

@@ -36,7 +36,7 @@ pub has-requires : goal.has-requires
 has-requires c =
     let w = c.index-queue-index.result in
     let is =
-    stands-in c.args.config.now c.requires.started.0 c.args.queue.now c.args.start c.loop-index.index w
+    stands-in c.args.config.now c.requires.started.0 c.args.tiers.now c.args.queue.now c.args.start c.loop-index.index w
     c.requires.started.1 c.loop-index-test.true c.index-queue-index.is (omega (arith, c.if-wanted-gt0.true)) in
     rw (sym is.limits)
     (begun-by c.args.config.now (live is.flow) is.flow.limits c.args.start is.keeps.limits is.started)
@@ -50,9 +50,9 @@ returns-then-has-clause-next c = λ items has.
     let lt = c.loop-index-test.true in
     let waits : 0 < w.wants = omega (arith, c.if-wanted-gt0.true) in
     let still : still_waits w ≡ true = grind (arith, nat_tests) in
-    let is = stands-in config items queue c.args.start i w has lt c.index-queue-index.is waits in
+    let is = stands-in config items c.args.tiers.now queue c.args.start i w has lt c.index-queue-index.is waits in
     let able =
-    entry-may config c.args.start c.args.room.slots items w c.min-wanted.result c.has.result c.quantum.ensures.lawful is
+    entry-may config c.args.start c.args.room.slots items c.args.tiers.now w c.min-wanted.result c.has.result c.quantum.ensures.lawful is
     (omega arith) c.if-wanted-gt0.true (omega (arith, c.requires.room)) c.has.ensures in
     let split : queue ≡ take i queue ++ w ∷ drop (i + 1) queue =
     sym (take-append-drop i queue) ∙ ap (λ ws. take i queue ++ ws) (drop_more queue i w lt
@@ -80,14 +80,14 @@ loop-index-preserved c = λ items has.
     let bounds = bounds_of config lawful in
     let passed : still_waits w ≡ true → P w = λ still g at may.
     let waits : 0 < w.wants = grind (arith, nat_tests) in
-    let is = stands-in config items queue c.args.start i w has lt c.index-queue-index.is waits in
+    let is = stands-in config items c.args.tiers.now queue c.args.start i w has lt c.index-queue-index.is waits in
     let same = same-flow is.flow g items w.place is.at at in
     let able : IsEligible config c.args.start c.args.room.slots (live is.flow) =
     subst (λ h. IsEligible config c.args.start c.args.room.slots (live h)) same may in
     elim c.else-wanted-gt0.branch [
       | else-wanted-gt0-via-then-wanted-gt0+then-wanted-room+else-has v ↦ (
           let t : v.has.result ≡ true =
-          (entry-may config c.args.start c.args.room.slots items w c.min-wanted.result v.has.result lawful is
+          (entry-may config c.args.start c.args.room.slots items c.args.tiers.now w c.min-wanted.result v.has.result lawful is
           (omega arith) v.if-wanted-gt0.true (omega (arith, c.requires.room)) v.has.ensures).1 able in
           let no' : v.has.result ≡ false = v.if-has.false in
           absurd (cc))

@@ -6,5 +6,5 @@ use Rattle.flow_book.specs.Queue.{HasStartedPart, IsPassed, still_waits}
 use Rattle.flow_book.proofs.queue.first_able.Given as goal
 
 abbrev pub invariant-loop-index : goal.invariant-loop-index
-invariant-loop-index l = (items : List Flow) → HasStartedPart l.config items l.queue l.start
+invariant-loop-index l = (items : List Flow) → HasStartedPart l.config items l.tiers l.queue l.start
     → AllByRecursion (IsPassed l.config l.start l.room.slots items) (filter still_waits (take l.index l.queue))

@@ -13,7 +13,7 @@ use Rattle.flow_book.proofs.queue.place_after.Goals as goal
 nobody : Waiting
 nobody =
     let none : BucketView = record { per_slot = 0; full = 0; level = 0; since = 0 } in
-    record { turn = 0; wants = 0; place = 0; limits = record { sustained = none; peak = none } }
+    record { turn = 0; wants = 0; place = 0; tier = 0; sustained = none }
 
 pub returns-clause-place : goal.returns-clause-place
 returns-clause-place c =

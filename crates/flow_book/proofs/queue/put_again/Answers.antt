@@ -3,6 +3,7 @@ use Rattle.std.proofs.Common.{◌≢◌, refl, length, arith}
 use Rattle.std.proofs.lemmas.Bool.{cases_eq}
 use Rattle.std.proofs.lemmas.Option.{slice_get_read}
 use Rattle.flow_book.specs.Entry.{live, IsSoundFlow}
+use Rattle.flow_book.proofs.InLine.{few-flows}
 use Rattle.flow_book.proofs.Queues.{among-others, put-among, pass-among}
 use Rattle.flow_book.proofs.Steps.{all-item}
 use Rattle.flow_book.proofs.queue.put_again.Goals as goal
@@ -11,6 +12,11 @@ pub waiting_of-waiting-requires-clause-within : goal.waiting_of-waiting-requires
 waiting_of-waiting-requires-clause-within c =
     (all-item live c.args.flows.now c.args.place c.at.result.now c.requires.within c.at.ensures
     (IsSoundFlow c.requires.book.0) c.requires.book.1.sound.each).within
+
+pub waiting_of-waiting-requires-clause-place : goal.waiting_of-waiting-requires-clause-place
+waiting_of-waiting-requires-clause-place c =
+    let book = c.requires.book in
+    omega (arith, c.requires.within, few-flows book.0 c.args.flows.now book.1.sound.ascending book.1.sums)
 
 pub returns-then-waiting-gt0 : goal.returns-then-waiting-gt0
 returns-then-waiting-gt0 c =
@@ -25,7 +31,7 @@ returns-then-waiting-gt0 c =
     among-others place before.0 items moved.others before.1 (rw w.ensures.place at moved.among) in
     rw moved.is (put-among c.requires.book.0 items c.requires.book.1 (λ other. other ≢ place) (λ other. Unit {0})
     moved.others place f here (λ k may. cases_eq k place) (λ k other. tt) others
-    w.result w.ensures.place w.ensures.turn w.ensures.wants w.ensures.limits (λ differ. differ refl) tt)
+    w.result w.ensures.place w.ensures.turn w.ensures.wants w.ensures.sustained w.ensures.tier (λ differ. differ refl) tt)
 
 pub returns : goal.returns
 returns c =

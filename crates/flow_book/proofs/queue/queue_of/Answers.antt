@@ -4,6 +4,7 @@ use Rattle.std.proofs.lemmas.Bool.{cases_eq}
 use Rattle.std.proofs.lemmas.Option.{slice_get_read}
 use Rattle.flow_book.specs.Entry.{live, IsSoundFlow}
 use Rattle.flow_book.proofs.Queues.{put-among, pass-among, whole-among}
+use Rattle.flow_book.proofs.InLine.{few-flows}
 use Rattle.flow_book.proofs.Steps.{all-item}
 use Rattle.flow_book.proofs.queue.queue_of.Goals as goal
 use Rattle.flow_book.proofs.queue.queue_of.Goals.{then-waiting-gt0+in_ok-put_in_turn, else-waiting-gt0}
@@ -13,6 +14,14 @@ waiting_of-waiting-requires-clause-within c =
     (all-item live c.args.flows.now c.loop-place.place c.at.result.now
     (omega (arith, c.loop-place-test.true))
     c.at.ensures (IsSoundFlow c.requires.0) c.requires.1.sound.each).within
+
+pub waiting_of-waiting-requires-clause-place : goal.waiting_of-waiting-requires-clause-place
+waiting_of-waiting-requires-clause-place c =
+    omega (
+      arith,
+      c.loop-place-test.true,
+      few-flows c.requires.0 c.args.flows.now c.requires.1.sound.ascending c.requires.1.sums,
+    )
 
 pub put_in_turn-requires : goal.put_in_turn-requires
 put_in_turn-requires c = c.loop-place.invariant.ascending
@@ -36,7 +45,7 @@ loop-place-preserved c =
           (put-among c.requires.0 items c.requires.1 (λ k. k < i) (λ k. k < i + 1) c.loop-place.queue.items i f here
           (only i) (λ k lt. omega arith) c.loop-place.invariant
           c.waiting_of-waiting.result c.waiting_of-waiting.ensures.place c.waiting_of-waiting.ensures.turn
-          c.waiting_of-waiting.ensures.wants c.waiting_of-waiting.ensures.limits
+          c.waiting_of-waiting.ensures.wants c.waiting_of-waiting.ensures.sustained c.waiting_of-waiting.ensures.tier
           (λ lt. absurd (omega arith)) (omega arith))
       | else-waiting-gt0 w ↦ rw w.queue-is
           (pass-among c.requires.0 items c.requires.1 (λ k. k < i) (λ k. k < i + 1) c.loop-place.queue.items i f here

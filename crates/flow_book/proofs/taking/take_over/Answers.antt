@@ -4,6 +4,7 @@ use Rattle.std.proofs.lemmas.List.{take_all, length-set}
 use Rattle.flow_book.specs.declared.flow.Flow.{Flow}
 use Rattle.flow_book.specs.Entry.{IsCopy}
 use Rattle.flow_book.specs.FlowList.{grants_at}
+use Rattle.flow_book.specs.Tiers.{limits_in}
 use Rattle.flow_book.proofs.TakenOver.{IsPart, place-within, part-none, part-more, is-here, wants-asked, copied, is-taken}
 use Rattle.flow_book.proofs.taking.take_over.Goals as goal
 
@@ -13,14 +14,14 @@ loop-waiting-init c = record { long = refl; part = λ channel items can shows. p
 pub at_mut-flow-requires : goal.at_mut-flow-requires
 at_mut-flow-requires c =
     let is = c.requires in
-    rw c.loop-waiting.invariant.long (place-within is.0 c.args.flows.now is.1 c.args.served.now is.2
+    rw c.loop-waiting.invariant.long (place-within is.0 c.args.flows.now is.1 c.args.tiers.now c.args.served.now is.2
     c.loop-waiting.waiting-index c.waiting-item.result c.loop-waiting-test.true c.waiting-item.is)
 
 pub take_over-requires : goal.take_over-requires
 take_over-requires c =
     let w = c.waiting-item.result in
     let is = c.requires in
-    wants-asked is.0 c.args.flows.now is.1 c.args.served.now is.2 c.loop-waiting.waiting-index w
+    wants-asked is.0 c.args.flows.now is.1 c.args.tiers.now c.args.served.now is.2 c.loop-waiting.waiting-index w
     c.loop-waiting-test.true c.waiting-item.is c.loop-waiting.flows c.at_mut-flow.result.now
     c.loop-waiting.invariant.long c.at_mut-flow.ensures.value (c.loop-waiting.invariant.part is.0 is.1 is.2 is.3)
 
@@ -43,14 +44,14 @@ loop-waiting-preserved c = record {
       let e : c.take_over.new.self ≡ record f {
         turn = w.turn;
         granted = f.asked - w.wants;
-        limits = w.limits;
+        limits = limits_in c.args.tiers.now w;
         grants = grants;
       } = c.take_over.ensures in
-      let here = is-here channel old items queue can i w lt is new f long read part in
+      let here = is-here channel old items c.args.tiers.now queue can i w lt is new f long read part in
       let copy =
-      copied channel old items queue can i w lt is new f long read part grants
+      copied channel old items c.args.tiers.now queue can i w lt is new f long read part grants
       (c.grants_at.ensures ∙ ap (grants_at w.place) (sym shows)) in
-      part-more channel old items queue can i w lt is new f long read part c.take_over.new.self
+      part-more channel old items c.args.tiers.now queue can i w lt is new f long read part c.take_over.new.self
       (subst (λ (h : Flow). IsCopy here.0 h) (sym e) copy);
 }
 
@@ -59,6 +60,6 @@ returns c = λ channel items can shows.
     let queue = c.args.served.now in
     let all : take c.loop-waiting.waiting-index queue ≡ queue =
     take_all c.loop-waiting.waiting-index queue (omega arith) in
-    is-taken channel c.args.flows.now items queue can c.loop-waiting.flows c.loop-waiting.invariant.long
+    is-taken channel c.args.flows.now items c.args.tiers.now queue can c.loop-waiting.flows c.loop-waiting.invariant.long
     (subst (λ done. IsPart c.args.flows.now items done c.loop-waiting.flows) all
     (c.loop-waiting.invariant.part channel items can shows))

@@ -10,6 +10,6 @@ use Rattle.flow_book.proofs.taking.take_over.Given as goal
 abbrev pub invariant-loop-waiting : goal.invariant-loop-waiting
 invariant-loop-waiting l = record {
   long : length l.flows ≡ length l.initial.flows;
-  part : (c : Config) (items : List Flow) → CanBeTaken c l.initial.flows items l.served
+  part : (c : Config) (items : List Flow) → CanBeTaken c l.initial.flows items l.tiers l.served
       → map live items ≡ l.after.items → IsPart l.initial.flows items (take l.waiting-index l.served) l.flows;
 }

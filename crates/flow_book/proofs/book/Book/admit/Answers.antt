@@ -10,6 +10,7 @@ use Rattle.flow_book.specs.Entry.{live, IsSoundFlow, KeepsSums}
 use Rattle.flow_book.specs.Book.{new_flow, with_flow}
 use Rattle.sched_calls.proofs.Insertion.{insert-put_in}
 use Rattle.flow_book.proofs.Admission.{sound-with_flow, room-insert}
+use Rattle.flow_book.proofs.InLine.{few-flows}
 use Rattle.flow_book.proofs.Sums.{all-insert}
 use Rattle.flow_book.proofs.book.Book.admit.Goals as goal
 
@@ -27,7 +28,11 @@ pub make_way-requires : goal.make_way-requires
 make_way-requires c = λ known. (
   c.self.inside.flows,
   rw c.in_ok-make_room.ensures (c.self.invariant.order known),
-  omega (arith, c.len.ensures.few),
+  omega (
+    arith,
+    few-flows c.self.inside.channel c.self.inside.flows c.self.invariant.book.sound.ascending
+        c.self.invariant.book.sums,
+  ),
 )
 
 pub returns-clause-ok : goal.returns-clause-ok

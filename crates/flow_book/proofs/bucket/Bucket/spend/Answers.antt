@@ -1,5 +1,5 @@
 -- The level has the bytes that are taken.
-use Rattle.std.proofs.Common.{◌≡◌, ap, ◌-◌, ◌*◌, ◌<◌, ◌≤◌, arith}
+use Rattle.std.proofs.Common.{ap, ◌*◌, ◌<◌, ◌≤◌, arith}
 use Rattle.flow_book.specs.Bucket.{BucketView, level_of}
 use Rattle.flow_book.proofs.Buckets.{most-limited, spent-stands}
 use Rattle.flow_book.proofs.bucket.Bucket.spend.Goals as goal

@@ -1,5 +1,5 @@
 -- Both buckets take the grant where it keeps both ceilings.
-use Rattle.std.proofs.Common.{◌++◌, ◌∷◌, [], IsTrue}
+use Rattle.std.proofs.Common.{IsTrue}
 use Rattle.sched_calls.specs.FlowSpec.{rate_of, burst_of, peak_of}
 use Rattle.sched_calls.specs.declared.spec.TheConstants.{PEAK_BURST}
 use Rattle.flow_book.specs.declared.flow.Grant.{Grant}

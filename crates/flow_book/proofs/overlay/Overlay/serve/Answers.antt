@@ -18,7 +18,7 @@ serve_first-requires-clause-started c =
     let o = c.self.invariant in
     let has =
     started-queue c.self.inside.channel c.self.inside.before.items c.self.inside.flows.items c.self.inside.is_long
-    c.self.inside.queue.items c.self.inside.served.items _ c.self.inside.first c.args.start o
+    c.self.inside.queue.items c.self.inside.served.items c.self.inside.tiers.items _ c.self.inside.first c.args.start o
     (rw (← c.self.view_is) at c.requires.started) in
     (o.items, o.order, rw c.config-config.ensures has)
 
@@ -28,23 +28,23 @@ returns-in_err-served-clause-next c =
     let config = c.self.inside.channel in
     let has =
     started-queue config c.self.inside.before.items c.self.inside.flows.items c.self.inside.is_long
-    c.self.inside.queue.items c.self.inside.served.items _ c.self.inside.first c.args.start o
+    c.self.inside.queue.items c.self.inside.served.items c.self.inside.tiers.items _ c.self.inside.first c.args.start o
     (rw (← c.self.view_is) at c.requires.started) in
     let none = (rw c.config-config.ensures at c.in_err-served.ensures.next) o.items o.order has in
     rw (← c.self.view_is, c.from_residual.ensures)
     (subst (λ fs. NoneEligible config fs c.args.start c.args.room) o.shows none)
 
 -- all its grants have started
-has-started : (c : goal.After-self-1) → HasStartedIn c.self.inside.channel c.self.invariant.items c.self.inside.queue.items
-    c.self.inside.served.items c.args.start
+has-started : (c : goal.After-self-1) → HasStartedIn c.self.inside.channel c.self.invariant.items
+    c.self.inside.tiers.items c.self.inside.queue.items c.self.inside.served.items c.args.start
 has-started c =
     started-queue c.self.inside.channel c.self.inside.before.items c.self.inside.flows.items c.self.inside.is_long
-    c.self.inside.queue.items c.self.inside.served.items _ c.self.inside.first c.args.start c.self.invariant
+    c.self.inside.queue.items c.self.inside.served.items c.self.inside.tiers.items _ c.self.inside.first c.args.start c.self.invariant
     (rw (← c.self.view_is) at c.requires.started)
 
 -- the first is served
 first : (c : goal.After-self-1) → IsServedFirst c.self.inside.channel c.self.inside.is_long c.self.invariant.items
-    c.self.inside.queue.items c.self.inside.served.items c.serve_first.new.queue.items c.serve_first.new.served.items
+    c.self.inside.tiers.items c.serve_first.new.tiers.items c.self.inside.queue.items c.self.inside.served.items c.serve_first.new.queue.items c.serve_first.new.served.items
     c.args.start c.args.room c.most_in-bytes.result c.in_ok-served.served.sid c.in_ok-served.served.bytes
 first c =
     (rw c.config-config.ensures at c.in_ok-served.ensures.next) c.self.invariant.items c.self.invariant.order
@@ -52,15 +52,16 @@ first c =
 
 -- the flow is served
 served : (c : goal.After-self-1) → IsServed c.self.inside.channel c.self.invariant.items c.self.inside.is_long
-    c.self.inside.queue.items c.self.inside.served.items c.serve_first.new.queue.items c.serve_first.new.served.items
+    c.serve_first.new.tiers.items c.self.inside.queue.items c.self.inside.served.items c.serve_first.new.queue.items c.serve_first.new.served.items
     c.args.start c.args.room c.in_ok-served.served.bytes (first c).waiting (first c).new
 served c =
     let f = first c in
-    let g = f.granted in
-    is-served c.self.inside.channel c.self.invariant.items c.self.inside.queue.items c.self.inside.served.items
-    c.serve_first.new.queue.items c.serve_first.new.served.items c.args.start c.args.room c.in_ok-served.served.bytes
-    c.most_in-bytes.result f.at f.waiting f.new (rw c.config-config.ensures at c.in_ok-served.ensures.lawful) (has-started c) f.here f.next
-    (rw c.config-config.ensures at c.most_in-bytes.ensures) g.amount g.wants g.place g.limits g.settled g.turn c.self.inside.is_long f.put
+    is-served c.self.inside.channel c.self.invariant.items c.self.inside.tiers.items c.serve_first.new.tiers.items
+    c.self.inside.queue.items c.self.inside.served.items c.serve_first.new.queue.items c.serve_first.new.served.items
+    c.args.start c.args.room c.in_ok-served.served.sid c.in_ok-served.served.bytes c.most_in-bytes.result f.at f.waiting
+    f.new (rw c.config-config.ensures at c.in_ok-served.ensures.lawful) (has-started c) f.here f.next
+    (rw c.config-config.ensures at c.most_in-bytes.ensures) f.granted c.self.inside.is_long
+    c.self.invariant.tiered.ones f.put
 
 -- its SID is told by its turn
 same-sid : (c : goal.After-self-1) → c.in_ok-served.served.sid ≡ (served c).flow.sid
@@ -83,11 +84,12 @@ invariant_of-self-2 c =
     let shows : map live is.grown ≡ changed is.flow.sid (with_grant grant) c.self.inside.flows.items =
     is.shows ∙ ap (changed is.flow.sid (with_grant grant)) o.shows in
     let all : IsOverlay config before (changed is.flow.sid (with_grant grant) c.self.inside.flows.items) is_long
-    queue after _ c.serve_first.new.first = record {
+    queue after c.serve_first.new.tiers.items _ c.serve_first.new.first = record {
       items = is.grown;
       shows = shows;
       book = is.book;
       order = is.order;
+      tiered = is.tiered;
       room = c.serve_first.ensures.reserved;
       passed = c.serve_first.ensures.passed;
       same = same-changed is.flow.sid grant before c.self.inside.flows.items o.same;
