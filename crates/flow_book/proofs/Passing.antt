@@ -7,18 +7,11 @@ use Rattle.std.proofs.lemmas.Grind.{get_or-set_at}
 use Rattle.std.proofs.lemmas.List.{get_or-set_other, length-set}
 use Rattle.std.proofs.lemmas.List.Edits.{length-remove, length-insert}
 use Rattle.flow_book.specs.declared.queue.Waiting.{Waiting}
-use Rattle.flow_book.specs.Queue.{still_waits, is_passed, StandsBehind}
+use Rattle.flow_book.specs.Queue.{still_waits, is_passed, HasPassed, StandsBehind}
 use Rattle.sched_calls.specs.Sids.{AscendBy}
 use Rattle.flow_book.proofs.Queues.{with-one}
 use Rattle.flow_book.proofs.Sinking.{remove-next}
 use Rattle.flow_book.proofs.StillWaiting.{kept-at, gone-kept}
-
--- Of a list the one at its first place has come to this one, where nothing is written yet: it passes those before it
-pub record HasPassed (first : ℕ) (old new : List Waiting) (turn at : ℕ) : Type 0 where
-  pub within : at < length new
-  pub behind : first ≤ at
-  pub left : remove new at ≡ remove old first
-  pub before : (k : ℕ) (d : Waiting) → k < at → is_passed turn (get_or new k d) ≡ true
 
 -- it passes one more
 pub passes-more : (first : ℕ) (old new : List Waiting) (turn at : ℕ) (d : Waiting) → HasPassed first old new turn at

@@ -1,6 +1,7 @@
 -- The flows that wait for bytes, in the order in which they are served.
 use Rattle.std.specs.Prelude.{◌≡◌, ◌≢◌, ℕ, ◌<◌, ◌⊎◌, Bool, true, List, [], ◌∷◌, Some, option_map, slice_get, map}
-use Rattle.std.specs.Prelude.{◌+◌, ◌-◌, ◌≤◌, false, ◌||◌, ◌==◌, nat_le, nat_lt, insert, remove, filter, take, length, if◌then◌else◌}
+use Rattle.std.specs.Prelude.{◌+◌, ◌-◌, ◌≤◌, false, ◌||◌, ◌==◌, nat_le, nat_lt, insert, remove, filter, take, length, slice_index_or}
+use Rattle.std.specs.Prelude.{if◌then◌else◌}
 use Rattle.std.specs.List.{AllByRecursion}
 use Rattle.minislots.specs.declared.config.Config.{Config}
 use Rattle.flow_book.specs.declared.flow.Flow.{Flow}
@@ -81,6 +82,13 @@ HasRoom is_long queue served capacity =
 -- one wants nothing, or its turn is no later than this one
 abbrev pub is_passed : ℕ → Waiting → Bool
 is_passed turn w = w.wants == 0 || nat_le w.turn turn
+
+-- Of a list the one at its first place has come to this one, where nothing is written yet: it passes those before it
+pub record HasPassed (first : ℕ) (old new : List Waiting) (turn at : ℕ) : Type 0 where
+  pub within : at < length new
+  pub behind : first ≤ at
+  pub left : remove new at ≡ remove old first
+  pub before : (k : ℕ) (d : Waiting) → k < at → is_passed turn (slice_index_or new k d) ≡ true
 
 -- The one at a place of the queue stands no earlier in it now: in its turn among those that still wait, where it does
 pub record StandsBehind (index : ℕ) (w : Waiting) (old new : List Waiting) : Type 0 where

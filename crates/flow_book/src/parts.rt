@@ -158,6 +158,7 @@ fn first_waiting(queue: &[Waiting], first: usize) -> usize
 }
 
 // Grants one that waits, at this minislot, the most bytes that it may have of so many, and answers to whom they went.
+#[inline(always)]
 fn serve_one(waiting: &mut Waiting, tiers: &mut Vec<Tier>, start: u64, most: u64) -> Served
     requires begun { HasBegunBy start (limits_in tiers.old.items waiting.old) }
     requires most { most < 2 ^ 32 }

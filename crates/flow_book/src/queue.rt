@@ -15,7 +15,7 @@ ghost use Rattle.flow_book.specs.Queue.{IsQueue, IsQueueAmong, IsMoved, AreSameB
 ghost use Rattle.flow_book.specs.Queue.{HasStartedPart, IsFirstAble, IsPassed};
 ghost use Rattle.flow_book.specs.Tiers.{IsSpent, limits_in};
 ghost use Rattle.flow_book.specs.declared.tiers.TheConstants.{NO_TIER as NONE};
-ghost use Rattle.flow_book.specs.Queue.{NoneWaitsBefore, StandsBehind, is_passed, still_waits};
+ghost use Rattle.flow_book.specs.Queue.{NoneWaitsBefore, HasPassed, StandsBehind, is_passed, still_waits};
 
 use crate::bucket::Bucket;
 use crate::flow::{Flow, Room, SIDS, turn_after};
@@ -72,6 +72,7 @@ impl Waiting {
 
     // Takes the most bytes, up to the limit, that keep its ceilings in a grant that starts at this minislot, and answers
     // how many they are.
+    #[inline(always)]
     fn take_most(&mut self, tiers: &mut Vec<Tier>, slot: u64, limit: u32) -> u32
         requires { HasBegunBy slot (limits_in tiers.old.items self.old) }
         ensures same { self.new ≡ record self.old { sustained = self.new.sustained } }
@@ -92,6 +93,7 @@ impl Waiting {
 
     // Grants the flow, from this minislot on, the most bytes that it may have of so many at most, and answers how many
     // they are.
+    #[inline(always)]
     pub(crate) fn serve(&mut self, tiers: &mut Vec<Tier>, start: u64, most: u64) -> u32
         requires begun { HasBegunBy start (limits_in tiers.old.items self.old) }
         requires most { most < 2 ^ 32 }
@@ -211,7 +213,26 @@ fn is_passed(waiting: &Waiting, turn: u128) -> bool
     waiting.wants == 0 || waiting.turn <= turn
 }
 
+// Moves those behind this place that one of a later turn passes to the front by one, and answers where it comes to stand.
+#[inline(never)]
+fn pass(queue: &mut [Waiting], index: usize, turn: u128) -> usize
+    requires within { index < length queue.old }
+    requires before { (k : ℕ) (d : Waiting)
+        → k < index → is_passed turn (slice_index_or queue.old k d) ≡ true }
+    ensures passed { HasPassed index queue.old queue.new turn result }
+    ensures next { (d : Waiting) → result + 1 < length queue.new
+        → is_passed turn (slice_index_or queue.new (result + 1) d) ≡ false }
+{
+    let mut to = index;
+    while to + 1 < queue.len() && is_passed(&queue[to + 1], turn) {
+        queue[to] = queue[to + 1];
+        to += 1;
+    }
+    to
+}
+
 // Moves the one at this place in the queue, which still waits and passes all before it, behind those that it passes.
+#[inline(always)]
 fn move_behind(queue: &mut [Waiting], index: usize, waiting: Waiting)
     requires within { index < length queue.old }
     requires waits { still_waits waiting ≡ true }
@@ -219,16 +240,13 @@ fn move_behind(queue: &mut [Waiting], index: usize, waiting: Waiting)
         → k < index → is_passed waiting.turn (slice_index_or queue.old k d) ≡ true }
     ensures { StandsBehind index waiting queue.old queue.new }
 {
-    let mut to = index;
-    while to + 1 < queue.len() && is_passed(&queue[to + 1], waiting.turn) {
-        queue[to] = queue[to + 1];
-        to += 1;
-    }
+    let to = pass(queue, index, waiting.turn);
     queue[to] = waiting;
 }
 
 // Puts the one at this place in the queue, which was served and passes all before it, behind those that it passes: where
 // it wants nothing any more it stays where it is.
+#[inline(always)]
 pub(crate) fn put_on(queue: &mut [Waiting], index: usize, waiting: Waiting)
     requires within { index < length queue.old }
     requires before { (k : ℕ) (d : Waiting)
