@@ -80,6 +80,17 @@ pub wanted-fits : (c : Config) (start room : ℕ) (f : LiveFlow) → IsLawful c 
 wanted-fits c start room f lawful may =
     fits_bytes c (bounds_of c lawful).bursts (min (outstanding f) c.quantum) room may.takes.fits
 
+-- so where none fit none of these may be served
+pub none-fits : (c : Config) (start room : ℕ) (items : List Flow) → IsLawful c → bytes_in c room ≡ 0
+    → (ws : List Waiting) → AllByRecursion (IsPassed c start room items) ws
+none-fits c start room items lawful none [] = tt
+none-fits c start room items lawful none (w ∷ ws) = (
+  (λ f at may.
+      let fits = wanted-fits c start room (live f) lawful may in
+      absurd (omega (arith, fits, none, may.waits, (bounds_of c lawful).quantum_least))),
+  none-fits c start room items lawful none ws,
+)
+
 -- a flow that waits for these bytes may be served where they, or the quantum, fit and keep the ceilings
 pub may-is : (c : Config) (start room : ℕ) (f : Flow) (wants wanted : ℕ) (may : Bool) → IsLawful c → KeepsSums c f
     → HaveStartedBy start f.grants.items → outstanding (live f) ≡ wants → wanted ≡ min wants c.quantum

@@ -180,6 +180,9 @@ pub(crate) fn first_able(
     ensures lawful { IsLawful config.now }
 {
     let quantum = u64::from(config.quantum());
+    if room.bytes == 0 {
+        return None;
+    }
     for index in first..queue.len() {
         let waiting = &queue[index];
         let wanted = waiting.wants.min(quantum);

@@ -34,11 +34,8 @@ pub(crate) fn put_back(to: &mut Vec<Waiting>, from: &[Waiting]) -> Result<(), Al
     ensures { OnOk result (to.new.items ≡ filter still_waits from.now) }
 {
     to.clear();
-    for each in from {
-        if each.wants > 0 {
-            to.push(*each)?;
-        }
-    }
+    to.extend_from_slice(from)?;
+    to.retain(|waiting| waiting.wants > 0);
     Ok(())
 }
 

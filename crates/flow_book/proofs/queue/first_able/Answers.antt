@@ -11,9 +11,10 @@ use Rattle.flow_book.specs.Choice.{IsEligible}
 use Rattle.flow_book.specs.Entry.{live}
 use Rattle.flow_book.specs.Queue.{IsPassed, still_waits}
 use Rattle.minislots.proofs.Bounds.{bounds_of}
+use Rattle.minislots.specs.Units.{bytes_in}
 use Rattle.flow_book.proofs.Order.{all-implied}
 use Rattle.flow_book.proofs.Periods.{begun-by}
-use Rattle.flow_book.proofs.Serving.{late-behind, wanted-fits, stands-in, entry-may}
+use Rattle.flow_book.proofs.Serving.{late-behind, none-fits, wanted-fits, stands-in, entry-may}
 use Rattle.flow_book.proofs.StillWaiting.{kept-more, none-kept}
 use Rattle.flow_book.proofs.queue.first_able.Goals as goal
 use Rattle.flow_book.proofs.queue.first_able.Goals.{else-wanted-gt0-via-else-wanted-gt0}
@@ -31,6 +32,15 @@ loop-index-init c = λ items has.
     (take c.args.first c.args.queue.now)
     (all-implied (λ w. w.wants ≡ 0) (λ w. still_waits w ≡ false) (take c.args.first c.args.queue.now)
     (λ w none. grind (arith, nat_tests)) c.requires.passed)
+
+pub returns-then-room-eq0-clause-next : goal.returns-then-room-eq0-clause-next
+returns-then-room-eq0-clause-next c = λ items has.
+    let config = c.args.config.now in
+    let lawful = c.quantum.ensures.lawful in
+    let bounds = bounds_of config lawful in
+    let none : bytes_in config c.args.room.slots ≡ 0 =
+    omega (arith, c.if-room-eq0.true, c.requires.room, bounds.cap_least, bounds.quantum_least) in
+    none-fits config c.args.start c.args.room.slots items lawful none (filter still_waits c.args.queue.now)
 
 pub has-requires : goal.has-requires
 has-requires c =
