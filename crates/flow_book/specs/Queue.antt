@@ -79,9 +79,9 @@ abbrev pub HasRoom : Bool → List Waiting → List Waiting → ℕ → Type 0
 HasRoom is_long queue served capacity =
     is_long ≡ true → length served + length (filter still_waits queue) ≤ capacity
 
--- one wants nothing, or its turn is no later than this one
+-- the turn of one is no later than this one, or it wants nothing
 abbrev pub is_passed : ℕ → Waiting → Bool
-is_passed turn w = w.wants == 0 || nat_le w.turn turn
+is_passed turn w = nat_le w.turn turn || w.wants == 0
 
 -- Of a list the one at its first place has come to this one, where nothing is written yet: it passes those before it
 pub record HasPassed (first : ℕ) (old new : List Waiting) (turn at : ℕ) : Type 0 where

@@ -180,14 +180,14 @@ pub(crate) fn first_able(
     ensures lawful { IsLawful config.now }
 {
     let quantum = u64::from(config.quantum());
-    if room.bytes == 0 {
-        return None;
-    }
     for index in first..queue.len() {
         let waiting = &queue[index];
         let wanted = waiting.wants.min(quantum);
         if wanted > 0 && wanted <= room.bytes && waiting.has(tiers, start, wanted as u32) {
             return Some(index);
+        }
+        if room.bytes == 0 {
+            return None;
         }
     }
     None
@@ -209,11 +209,11 @@ pub(crate) fn move_back(queue: &mut [Waiting], index: usize, waiting: Waiting)
     queue[at] = waiting;
 }
 
-// One wants nothing, or is of a turn no later than this one.
+// One is of a turn no later than this one, or wants nothing.
 fn is_passed(waiting: &Waiting, turn: u128) -> bool
     ensures { result ≡ is_passed turn waiting.now }
 {
-    waiting.wants == 0 || waiting.turn <= turn
+    waiting.turn <= turn || waiting.wants == 0
 }
 
 // Moves those behind this place that one of a later turn passes to the front by one, and answers where it comes to stand.
