@@ -417,6 +417,11 @@ class Changed:
         self.breaks("an idle that ends where nothing stands", any(it[2] + it[3] not in stops for it in found.idles))
 
 
+def rank_of(flow):
+    """The rank of a flow by its parameters: 8 where it is polled, else its priority, and 0 where it has none."""
+    return 8 if flow["kind"] == "polled" else flow.get("priority", 0)
+
+
 def keeps(ticks, rate, burst, grants):
     """Whether the windows of grants that end in the last one keep a ceiling."""
     end, total = grants[-1][0], 0

@@ -2,9 +2,10 @@
  * What calls of the library cost; checks/cost_from_c reads what it prints. `calls`: a hundred thousand drawn calls,
  * each where those before it are answered: the nanoseconds of a call by processor time, the middle of five runs, how
  * many were refused, and how many bytes the MAPs have. `calls with changes`: the same where twenty in a hundred change,
- * replace, rest or wake; `calls with peaks`: where eighty flows of a hundred that ask have a peak. `no place`, `full
- * build`, `build beside reserves` and `build by profiles`: the microseconds of the costliest admission and of the
- * costliest builds, without opportunities, with the most, and where bursts are sent by descriptors.
+ * replace, rest or wake; `calls with peaks`: where eighty flows of a hundred that ask have a peak; `calls with
+ * reservations`: where eighty best effort flows of a hundred have a minimum reserved rate. `no place`, `full build`,
+ * `build beside reserves` and `build by profiles`: the microseconds of the costliest admission and of the costliest
+ * builds, without opportunities, with the most, and where bursts are sent by descriptors.
  * `longest`: of a million drawn calls the eight that took longest by the clock, and the eight by processor time.
  */
 #include "drawn_calls.h"
@@ -235,5 +236,8 @@ int main(void) {
   changes_in_hundred = 0;
   peaks_in_hundred = 80;
   print_calls("calls with peaks");
+  peaks_in_hundred = 0;
+  reservations_in_hundred = 80;
+  print_calls("calls with reservations");
   return 0;
 }

@@ -37,13 +37,14 @@ static struct mapsched_call ranging_at(const struct work *mine, int number) {
     .ranging_start = (uint8_t)(number % 17), .ranging_end = 10, .data_start = 4, .data_end = (uint8_t)(number % 19)};
 }
 
-/* A telephone rests and wakes; another flow has another ceiling and peak, or tells the depth of its queue. */
+/* A telephone rests and wakes; another flow has another ceiling, peak and reservation, or tells its queue's depth. */
 static struct mapsched_call change_at(const struct work *mine, int number) {
   if (mine->sid % 4 == 0)
     return (struct mapsched_call){.kind = number % 32 == 5 ? MAPSCHED_REST : MAPSCHED_WAKE, .sid = mine->sid};
   if (number % 32 == 5)
     return (struct mapsched_call){.kind = MAPSCHED_CHANGE, .flow = MAPSCHED_BEST_EFFORT, .sid = mine->sid,
-      .priority = 4, .rate = 640000 + (uint32_t)number, .burst = 1600, .peak = 1280000 * ((uint32_t)number % 3)};
+      .priority = 4, .rate = 640000 + (uint32_t)number, .burst = 1600, .peak = 1280000 * ((uint32_t)number % 3),
+      .reserved = 320000 * (uint32_t)(mine->sid % 2), .reserved_burst = 64 + (uint32_t)number};
   return (struct mapsched_call){
     .kind = MAPSCHED_REPLACE, .sid = mine->sid, .bytes = (uint32_t)number, .minislot = mine->next};
 }
@@ -58,7 +59,8 @@ static struct mapsched_call call_at(const struct work *mine, int number) {
       .interval_us = 20000, .jitter_us = 1000, .grants = 1};
   if (number == 0)
     return (struct mapsched_call){.kind = MAPSCHED_ADMIT, .flow = MAPSCHED_BEST_EFFORT, .sid = mine->sid, .priority = 3,
-      .rate = 640000, .burst = 1600, .peak = mine->sid % 2 ? 1280000 : 0};
+      .rate = 640000, .burst = 1600, .peak = mine->sid % 2 ? 1280000 : 0, .reserved = mine->sid % 3 ? 320000 : 0,
+      .reserved_burst = 128};
   if (number % 16 == 1 || number % 16 == 9) return ranging_at(mine, number);
   if (number % 16 == 5) return change_at(mine, number);
   if (number % 4 == 0) return (struct mapsched_call){.kind = MAPSCHED_BUILD, .minislot = mine->next - 40};
@@ -107,7 +109,8 @@ static int is_call(const struct mapsched_call *a, const struct mapsched_call *b)
          a->jitter_us == b->jitter_us && a->rate == b->rate && a->burst == b->burst && a->bytes == b->bytes &&
          a->minislot == b->minislot && a->sid == b->sid && a->receiver == b->receiver && a->priority == b->priority &&
          a->grants == b->grants && a->data_start == b->data_start && a->data_end == b->data_end &&
-         a->has_slots == b->has_slots && a->peak == b->peak;
+         a->has_slots == b->has_slots && a->peak == b->peak && a->reserved == b->reserved &&
+         a->reserved_burst == b->reserved_burst;
 }
 
 /* Whether two replies are the same. */

@@ -2,7 +2,7 @@
 meet; and the text of their histories. A third of the channels have burst profiles (drawn_bursts.py)."""
 
 from drawn_bursts import profile, with_bursts
-from plain import ALL_MODEMS, HEADING, LAST_CLOCK, MOST_BYTES, PRIORITIES, SIDS, Scheduler, line_of
+from plain import ALL_MODEMS, HEADING, LAST_CLOCK, MOST_BYTES, PRIORITIES, RESERVATION, SIDS, Scheduler, line_of
 from texts import LEFT_OUT, LIMITS, MISSING, PROFILES, completed
 
 
@@ -35,6 +35,8 @@ class Drawing:
         self.told = self.spelled()
         self.plain = Scheduler(self.config)
         self.sids = [self.draw.randint(1, 8191) for _ in range(self.draw.choice([3, 12, 12, 100]))]
+        # how many best effort flows of ten have a reservation
+        self.reserving = self.draw.choice([0, 0, 1, 5])
         self.admissions, self.builds = self.draw.choice([4, 4, 60]), self.draw.choice([6, 6, 6, 60])
         kinds = ["best_effort", "polled", "unsolicited"]
         self.kinds = self.draw.choice([kinds, kinds + kinds[:1] * 6, kinds[1:], kinds[2:]])
@@ -141,13 +143,29 @@ class Drawing:
             return {}
         return {"peak": self.draw.choice([0, 0, 1, 8000, 64000, 64001, rate // 2, rate, 3 * rate, 5000000, 2**32 - 1])}
 
+    def reservation(self):
+        """The minimum reserved rate of some flows: mostly one that brings the quantum in a frame, in a few, or in less
+        than one, with a burst of the quantum or of a few; in some a number is missing, or the burst is too low."""
+        if self.draw.random() >= self.reserving / 10:
+            return {}
+        config, quantum, draw = self.config, self.config["quantum"], self.draw
+        in_frame = 1280000 * quantum // (config["frame"] * config["ticks"])
+        rate = draw.choice([2 * in_frame, in_frame, *[in_frame // 2, in_frame // 3] * 2, in_frame // 7])
+        rate = draw.choice([min(rate, 2**32 - 1)] * 9 + [0, 1, 64000, 2**32 - 1])
+        more = [1, 17, quantum, 2 * quantum, 1522, 10**5]
+        burst = draw.choice([*[quantum] * 4, *(quantum + it for it in more)])
+        numbers = {"reserved": rate, "reserved_burst": burst if draw.random() < 0.96 else quantum - 1}
+        if draw.random() < 0.03:
+            del numbers[draw.choice([*numbers])]
+        return numbers
+
     def flow(self):
         return self.flow_of(self.draw.choice(self.kinds))
 
     def flow_of(self, kind):
         if kind == "best_effort":
             return {"kind": kind, "priority": self.draw.choice([*range(8)] * 8 + [8, 255]),
-                    **self.ceiling()}
+                    **self.ceiling(), **self.reservation()}
         if kind == "polled":
             return {"kind": kind, **self.times(), **self.ceiling()}
         flow = {"kind": kind, "size": self.draw.choice(self.sizes), **self.times()}
@@ -242,11 +260,11 @@ class Drawing:
         drawn = self.draw.random()
         if drawn < 0.15:
             return self.draw.choice(EDGES)
-        if usage == "request" and drawn < 0.5:
-            return self.draw.choice([*PRIORITIES, *[ALL_MODEMS] * 300])
         resting = [sid for sid, flow in self.plain.flows.items() if flow.rests]
-        if usage == "request" and resting and drawn < 0.75:
+        if usage == "request" and resting and drawn < 0.5:
             return self.draw.choice(resting)
+        if usage == "request" and drawn < 0.65:
+            return self.draw.choice([*PRIORITIES, *[ALL_MODEMS] * 300])
         return self.sid(self.draw.random() < 0.5)
 
     def header(self):
@@ -289,14 +307,72 @@ class Changing(Drawing):
         super().__init__(random_numbers)
         self.sids, self.admissions, self.builds = self.sids[: self.draw.randint(3, 8)], 6, 8
         self.changing = ["replace"] * 6 + ["change"] * 16 + ["rest"] * 6 + ["wake"] * 2
+        self.ranging = self.ranging and self.draw.choice([self.ranging, ["reserve"] * 12 + ["header"]])
+        self.usages, self.lengths = self.usages + ["request"] * 8, self.lengths + [1, 2, 2, 2, 4, 4]
         self.kinds = self.draw.choice([["best_effort"], ["unsolicited"], ["unsolicited", "polled", "best_effort"]])
         most = self.plain.capacity(self.config["frame"] - self.config["req_slots"])
         self.sizes = [1, 1, *(max(1, most * parts // 12) for parts in (1, 3, 4, 6, 9, 12))]
         self.counts = [1, 64, 100, *(max(1, most * parts // 4) for parts in (1, 1, 2, 3, 4, 5, 8, 20))]
 
+    def reserve(self):
+        """Often requests of a modem whose flow rests, in the minislots of a poll."""
+        resting = [sid for sid, flow in self.plain.flows.items() if flow.rests]
+        if resting and self.draw.random() < 0.4:
+            slots = self.config["poll_slots"]
+            return {"call": "reserve", "usage": "request", "sid": self.draw.choice(resting), "slots": slots}
+        return super().reserve()
+
     def drawn_limits(self):
         limits = {"periodic": self.draw.choice([2, 3, 5, 8]), "pending": self.draw.choice([1, 2, 64])}
         return {name: number for name, number in limits.items() if number != MISSING[name]}
+
+
+class Reserving(Drawing):
+    """A script on a channel whose best effort flows have reservations, most of them, and ask for more than their frames
+    have room for, some of which are polled; they are often changed, or removed and admitted again."""
+
+    MORE, FRAMES = (100, 200, 300), (40, 40, 64, 100)
+
+    def __init__(self, random_numbers):
+        super().__init__(random_numbers)
+        draw = self.draw
+        self.sids, self.admissions, self.reserving = self.sids[: draw.randint(2, 6)], 4, draw.choice([5, 8, 10])
+        self.builds, self.ranging = draw.choice([12, 24]), draw.choice([[], [], ["header"] * 2])
+        self.changing = draw.choice([[], ["replace"] * 2 + ["change"] * 3, ["change"] * 6])
+        self.kinds = ["best_effort"] * draw.choice([4, 8, 16]) + draw.choice([["polled"], ["polled", "unsolicited"]])
+        most = self.plain.capacity(self.config["frame"] - self.config["req_slots"])
+        self.counts = [1, 16, 64, 100, *(max(1, most * parts // 4) for parts in (1, 2, 3, 4, 8, 8, 20, 40))]
+
+    def drawn_sizes(self):
+        """A quantum of which a frame has room for several, mostly, and a request region that leaves it."""
+        sizes = super().drawn_sizes()
+        room = (sizes["frame"] - sizes["req_slots"] - 4) * sizes["bytes_per_slot"]
+        quantum = min(sizes["quantum"], max(64, room // self.draw.choice([1, 3, 5, 8])))
+        caps = [quantum, 2 * quantum, 5 * quantum, 100 * quantum]
+        return {**sizes, "quantum": quantum, "grant_cap": self.draw.choice(caps)}
+
+    def ceiling(self):
+        """One flow in three has a ceiling, near its reservation."""
+        if self.draw.random() < 0.65:
+            return {"rate": 0, "burst": 0, **self.peak(0)}
+        in_frame = 1280000 * self.config["quantum"] // (self.config["frame"] * self.config["ticks"])
+        rate = self.draw.choice([in_frame // 4, in_frame // 2, in_frame, 2 * in_frame, 5 * in_frame])
+        burst = self.config["quantum"] * self.draw.choice([1, 2, 3])
+        return {"rate": min(rate, 2**32 - 1), "burst": burst, **self.peak(min(rate, 2**31))}
+
+    def change(self, sid):
+        """One in two is of some of the numbers of its ceilings and its reservation alone, or takes it away."""
+        live = self.plain.flows.get(sid)
+        if live is None or live.kind != "best_effort" or self.draw.random() < 0.5:
+            return super().change(sid)
+        drawn = {"peak": self.draw.choice([0, 5000000, 2**32 - 1]), **self.flow_of(live.kind)}
+        if self.draw.random() < 0.1:
+            # names no reservation
+            told = {name: it for name, it in live.spec.items() if name not in RESERVATION}
+            return {"call": "change", "sid": sid, "flow": told}
+        names = self.draw.choice([["reserved"], ["reserved_burst"], ["rate"], ["burst"], ["peak"], ["priority"],
+                                  ["reserved", "reserved_burst"], ["reserved", "rate"]])
+        return {"call": "change", "sid": sid, "flow": {**live.spec, **{it: drawn[it] for it in names if it in drawn}}}
 
 
 class Blocked(Drawing):
@@ -496,6 +572,7 @@ class Waiting(Limited):
         self.sids = self.draw.sample(range(1, 7900), min(self.config.get("flows", 64), self.MOST) + 2)
         for sid in self.sids:
             ceiling = self.ceiling() if self.draw.random() < 0.1 else {"rate": 0, "burst": 0}
+            ceiling |= self.reservation() if self.draw.random() < 0.2 else {}
             flow = {"kind": "best_effort", "priority": self.draw.choice([0, 3, 3, 3, 7]), **ceiling}
             yield {"call": "admit", "sid": sid, "flow": flow}
         for _ in range(self.draw.choice([2, 5])):
@@ -547,17 +624,20 @@ def limited_of(random_numbers):
 
 
 def drawing_of(random_numbers):
-    """A drawn script: of eleven one changes its flows often, one settles often, one begins so that Reserves lapse, and
-    one so that its MAPs are crowded."""
-    return random_numbers.choice([Drawing] * 7 + [Changing, Settling, Blocked, Crowded])(random_numbers)
+    """A drawn script: of thirteen one changes its flows often, two have many reservations, one settles often, one
+    begins so that Reserves lapse, and one so that its MAPs are crowded."""
+    kinds = [Drawing] * 7 + [Changing, Settling, Blocked, Crowded] + [Reserving] * 2
+    return random_numbers.choice(kinds)(random_numbers)
 
 
 def as_written(entries):
-    """Entries as a history has them: grants are always written, and a peak where it is above 0."""
+    """Entries as a history has them: grants are always written, and a peak and the numbers of a reservation where they
+    are above 0."""
     for entry in entries:
         flow = {**entry["call"].get("flow", {})}
         if flow.get("kind") == "unsolicited":
             flow = {"grants": 1, **flow}
-        if flow.get("peak") == 0:
-            del flow["peak"]
+        for name in ("peak", "reserved", "reserved_burst"):
+            if flow.get(name) == 0:
+                del flow[name]
         yield {**entry, "call": {**entry["call"], "flow": flow}} if flow else entry

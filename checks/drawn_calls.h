@@ -23,9 +23,9 @@ static uint64_t below(uint64_t bound) {
   return state % bound;
 }
 
-/* How many flows of a hundred that ask have a peak: none where nobody says so, and then what is drawn is as without
- * peaks. */
-static uint64_t peaks_in_hundred;
+/* How many flows of a hundred that ask have a peak, and how many best effort flows of a hundred have a minimum reserved
+ * rate: none where nobody says so, and then what is drawn is as without them. */
+static uint64_t peaks_in_hundred, reservations_in_hundred;
 
 /* An admission of a flow of any kind. */
 static struct mapsched_call admission(uint16_t sid) {
@@ -46,6 +46,10 @@ static struct mapsched_call admission(uint16_t sid) {
     call.rate = rate;
     call.burst = 100000;
     if (peaks_in_hundred && below(100) < peaks_in_hundred) call.peak = 500000 * (uint32_t)below(17);
+    if (kind > 1 && reservations_in_hundred && below(100) < reservations_in_hundred) {
+      call.reserved = 100000 * (1 + (uint32_t)below(9));
+      call.reserved_burst = 256 + (uint32_t)below(3000);
+    }
   }
   return call;
 }

@@ -185,6 +185,23 @@ static void draw_ceiling(struct mapsched_call *call) {
   draw_peak(call);
 }
 
+/* A minimum reserved rate in one best effort flow of three: mostly one that brings the quantum in a frame or in a few,
+ * with a burst of the quantum or of a few, and seldom one that is too low. The other numbers of a script are drawn as
+ * without. */
+static void draw_reservation(struct mapsched_call *call) {
+  uint64_t kept = state;
+  uint32_t quantum = drawing.config.quantum;
+  uint32_t rate = (uint32_t)(UINT64_C(1280000) * quantum / (drawing.config.frame * drawing.config.ticks));
+  uint32_t rates[] = {0, 1, 64000, 2 * rate, rate, rate / 2, rate / 3, rate / 7, UINT32_MAX};
+  uint32_t bursts[] = {quantum, quantum, quantum + 1, 2 * quantum, 1522 + quantum, 100000};
+  state ^= UINT64_C(0x9f1b3c58d2e64a07);
+  if (is_one_in(3)) {
+    call->reserved = ONE_OF(rates);
+    call->reserved_burst = is_one_in(20) ? 63 : ONE_OF(bursts);
+  }
+  state = kept;
+}
+
 /* An interval of whole frames that part the cycle, or mostly so, and a jitter. */
 static void draw_times(struct mapsched_call *call) {
   static const uint32_t jitters[] = {0, 0, 50, 400, 3000};
@@ -204,7 +221,10 @@ static struct mapsched_call drawn_admission(void) {
   call.flow = kind > 2 ? MAPSCHED_BEST_EFFORT : (uint32_t)kind;
   if (call.flow != MAPSCHED_BEST_EFFORT) draw_times(&call);
   if (call.flow != MAPSCHED_UNSOLICITED) draw_ceiling(&call);
-  if (call.flow == MAPSCHED_BEST_EFFORT) call.priority = (uint8_t)(is_one_in(30) ? 8 + below(248) : below(8));
+  if (call.flow == MAPSCHED_BEST_EFFORT) {
+    call.priority = (uint8_t)(is_one_in(30) ? 8 + below(248) : below(8));
+    draw_reservation(&call);
+  }
   if (call.flow == MAPSCHED_UNSOLICITED) {
     call.size = drawing.has_small_grants ? 1 + (uint32_t)below(8) : ONE_OF(sizes);
     call.grants = ONE_OF(grants);
@@ -264,14 +284,16 @@ static struct mapsched_call given_to(uint16_t sid) {
   return (struct mapsched_call){.kind = 0};
 }
 
-/* A change, seldom to another kind of flow; one in two leaves what places a flow, and its peak where the priority is
- * odd, and seldom all of it. */
+/* A change, seldom to another kind of flow; one in two leaves what places a flow, by the priority its peak and the
+ * numbers of its reservation, one or both, and seldom all of it. */
 static struct mapsched_call drawn_change(void) {
   uint16_t sid = drawn_sid(1);
   struct mapsched_call given = given_to(sid), call = drawn_admission();
   while (call.flow != given.flow && !is_one_in(12)) call = drawn_admission();
   if (call.flow == given.flow && is_one_in(2)) {
     if (call.priority % 2) call.peak = given.peak;
+    if (call.priority % 4 > 0) call.reserved = given.reserved;
+    if (call.priority % 4 > 1) call.reserved_burst = given.reserved_burst;
     call.size = given.size;
     call.interval_us = given.interval_us;
     call.jitter_us = given.jitter_us;

@@ -12,7 +12,7 @@
 /* A program that was built with an older header has a call of this size, with these members in these places. */
 #define STANDS_AT(place, member) \
   _Static_assert(offsetof(struct mapsched_call, member) == (place), #member " is at another place")
-_Static_assert(sizeof(struct mapsched_call) == 56, "a call has another size");
+_Static_assert(sizeof(struct mapsched_call) == 64, "a call has another size");
 STANDS_AT(0, kind);
 STANDS_AT(4, flow);
 STANDS_AT(8, size);
@@ -30,6 +30,8 @@ STANDS_AT(45, data_start);
 STANDS_AT(46, data_end);
 STANDS_AT(47, has_slots);
 STANDS_AT(48, peak);
+STANDS_AT(52, reserved);
+STANDS_AT(56, reserved_burst);
 
 /* All that the caller has, and what it can read of a scheduler. */
 static struct {
@@ -55,7 +57,8 @@ static const struct mapsched_call voice = {.kind = MAPSCHED_ADMIT,
                                            .jitter_us = 800,
                                            .grants = 2};
 static const struct mapsched_call data = {
-  .kind = MAPSCHED_ADMIT, .flow = MAPSCHED_BEST_EFFORT, .sid = 6, .peak = 64000};
+  .kind = MAPSCHED_ADMIT, .flow = MAPSCHED_BEST_EFFORT, .sid = 6, .peak = 64000, .reserved = 32000,
+  .reserved_burst = 64};
 static const struct mapsched_call change = {.kind = MAPSCHED_CHANGE,
                                             .flow = MAPSCHED_UNSOLICITED,
                                             .sid = 5,

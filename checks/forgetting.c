@@ -11,10 +11,10 @@
 #include <stdio.h>
 #include <stdlib.h>
 
-enum { SCRIPTS = 10000, SEED = 20261125, FILLED = 0xa5, REFUSALS = 23, REASONS = 7, KINDS = MAPSCHED_CHANGED + 1 };
+enum { SCRIPTS = 10000, SEED = 20261125, FILLED = 0xa5, REFUSALS = 23, REASONS = 8, KINDS = MAPSCHED_CHANGED + 1 };
 
 /* The bytes of a call up to its last number: what is behind it in the struct is nobody's. */
-enum { NUMBERS = offsetof(struct mapsched_call, has_slots) + 1 };
+enum { NUMBERS = offsetof(struct mapsched_call, reserved_burst) + sizeof(uint32_t) };
 
 /* A script, with what the scheduler that keeps all answered, and the places of the calls that it recorded. */
 static struct {

@@ -160,4 +160,6 @@ class Wanted:
                           ("served_requests_total", "served"), ("waiting_requests", "waiting"),
                           ("dropped_requests_total", "dropped"), ("replaced_requests_total", "replaced")):
             self.add(f"flow_{name}", told.get(key, 0), **of)
+        if "under" in told:
+            self.add("flow_under_reservation_frames_total", told["under"], **of)
         self.delays("flow_delay_seconds", told["delay"], **of)

@@ -21,30 +21,35 @@ MODEMS, PRIORITIES = range(1, 8192), range(15873, 16128)
 SIDS = {name: [MODEMS] for name in ("initial_to", "station", "data")}
 SIDS |= {"request": [MODEMS, PRIORITIES, [ALL_MODEMS]], "initial": [], "quiet": []}
 HEADING = ["ucd_count", "ranging_start", "ranging_end", "data_start", "data_end"]
-# The parameters that a flow's place in the cycle goes by, those of its rate ceiling, and the bytes of a peak's burst.
+# The parameters that a flow's place in the cycle goes by, those of its rate ceiling, and the bytes of a peak's burst;
+# those of its reservation, and the rank of a flow under that, which is that of a polled flow.
 PLACING, CEILING, PEAK_BURST = ("interval_us", "jitter_us", "size", "grants"), ("rate", "burst"), 1522
+RESERVATION, FIRST_RANK = ("reserved", "reserved_burst"), 8
 
 
 class Flow:
     """A live flow: its parameters, what it asked, its data grants as (start, bytes), how many of them were before the
-    present periods of its rate ceiling and its peak ceiling, its place in the cycle, and whether it rests. Its requests
-    that wait are in two batches, each as (minislot at which it was heard, bytes asked with it)."""
+    present periods of its rate ceiling and its peak ceiling, those of the present period of its reservation that were
+    given under it, its place in the cycle, and whether it rests. Its requests that wait are in two batches, each as
+    (minislot at which it was heard, bytes asked with it)."""
 
     def __init__(self, spec):
         self.spec, self.kind, self.asked, self.grants = spec, spec["kind"], 0, []
         self.first, self.second = [], []
         self.phase = self.offset = self.interval = self.before = self.before_peak = 0
-        self.starts, self.rests = {}, False
+        self.starts, self.rests, self.reserved_grants = {}, False, []
 
     def changed(self, spec):
-        """The flow with other parameters: it is awake, a ceiling begins anew where a number of it is another, and it
-        has no place where one of those is another that this goes by."""
+        """The flow with other parameters: it is awake, a ceiling or the reservation begins anew where a number of it is
+        another, and it has no place where one of those is another that this goes by."""
         other = copy.copy(self)
         other.spec, other.rests = spec, False
         if any(spec.get(it) != self.spec.get(it) for it in CEILING):
             other.before = len(self.grants)
         if spec.get("peak", 0) != self.spec.get("peak", 0):
             other.before_peak = len(self.grants)
+        if any(spec.get(it, 0) != self.spec.get(it, 0) for it in RESERVATION):
+            other.reserved_grants = []
         if any(spec.get(it, 1) != self.spec.get(it, 1) for it in PLACING):
             other.starts = {}
         return other
@@ -53,6 +58,18 @@ class Flow:
         """Its ceilings: of each the rate, the burst, and the grants of its present period."""
         yield self.spec["rate"], self.spec["burst"], self.grants[self.before :]
         yield self.spec.get("peak", 0), PEAK_BURST, self.grants[self.before_peak :]
+
+    def reservation(self):
+        """The rate, the burst and the grants that its reservation is kept by: a rate of 0 where it has none."""
+        has_one = self.kind == "best_effort"
+        rate, burst = (self.spec.get(it, 0) if has_one else 0 for it in RESERVATION)
+        return rate, burst, self.reserved_grants
+
+    def grant(self, start, count, is_reserved):
+        """A data grant, which may be one under its reservation."""
+        self.grants.append((start, count))
+        if is_reserved:
+            self.reserved_grants.append((start, count))
 
     def granted(self):
         return sum(count for _, count in self.grants)
@@ -93,8 +110,9 @@ class Flow:
         """The start of its last grant, and a minislot before all where it has none."""
         return self.grants[-1][0] if self.grants else -1
 
-    def rank(self):
-        return 8 if self.kind == "polled" else self.spec["priority"]
+    def rank(self, is_reserved=False):
+        """Its rank, which is that of a polled flow where it is under its reservation."""
+        return FIRST_RANK if is_reserved or self.kind == "polled" else self.spec["priority"]
 
     def each(self):
         """How many grants or polls it has in an interval."""
@@ -233,6 +251,8 @@ class Scheduler(Places):
             refuse(3, 6)
         if kind == "unsolicited" and not 1 <= spec.get("grants", 1) <= 8:
             refuse(3, 7)
+        if kind == "best_effort" and spec.get("reserved", 0) > 0 and spec.get("reserved_burst", 0) < config["quantum"]:
+            refuse(3, 8)
 
     def remove(self, call):
         self.live(call["sid"])
@@ -404,21 +424,46 @@ class Scheduler(Places):
     def may_have(self, flow, start, count, room):
         return self.slots_for(count) <= room and self.keeps_ceilings(flow, start, count)
 
+    def keeps_reservation(self, flow, start, count):
+        """Whether its grants under its reservation, with one of so many bytes, are within it."""
+        return self.keeps(*flow.reservation(), start, count)
+
+    def wanted_by(self, flow):
+        """The bytes that a flow has to be able to send where it is served."""
+        return min(flow.outstanding(), self.config["quantum"])
+
+    def is_eligible(self, flow, start, room):
+        if flow.kind == "unsolicited" or flow.outstanding() == 0:
+            return False
+        return self.may_have(flow, start, self.wanted_by(flow), room)
+
+    def is_reserved(self, flow, start, room):
+        """Whether a flow is under its reservation there."""
+        is_kept = flow.reservation()[0] > 0 and self.keeps_reservation(flow, start, self.wanted_by(flow))
+        return is_kept and self.is_eligible(flow, start, room)
+
+    def rank_of(self, flow, start, room):
+        return flow.rank(self.is_reserved(flow, start, room))
+
+    def turn_of(self, sid, flow, start, room):
+        """Where a flow stands among those that may be served there: the least is the first."""
+        return -self.rank_of(flow, start, room), flow.last(), sid
+
     def next_flow(self, start, room):
         """The flow that is served at a minislot, with so much room, or none."""
-        able = []
-        for sid, flow in self.flows.items():
-            if flow.kind != "unsolicited" and flow.outstanding() > 0:
-                if self.may_have(flow, start, min(flow.outstanding(), self.config["quantum"]), room):
-                    able.append((-flow.rank(), flow.last(), sid))
-        return min(able)[2] if able else None
+        able = [(sid, flow) for sid, flow in self.flows.items() if self.is_eligible(flow, start, room)]
+        return min((self.turn_of(*it, start, room) for it in able), default=[None])[-1]
 
-    def most(self, flow, start, room):
-        """The greatest number of bytes that a flow may be granted there."""
+    def most(self, flow, start, room, is_reserved=False):
+        """The greatest number of bytes that a flow may be granted there, which may be under its reservation."""
+        def may_have(count):
+            is_kept = not is_reserved or self.keeps_reservation(flow, start, count)
+            return is_kept and self.may_have(flow, start, count, room)
+
         least, most = 0, min(flow.outstanding(), self.config["grant_cap"])
         while least < most:
             middle = (least + most + 1) // 2
-            least, most = (middle, most) if self.may_have(flow, start, middle, room) else (least, middle - 1)
+            least, most = (middle, most) if may_have(middle) else (least, middle - 1)
         return least
 
     # What stands at a minislot that nothing periodic has, with so much room: SID, usage, bytes and minislots.
@@ -437,8 +482,10 @@ class Scheduler(Places):
         sid = self.next_flow(start, room) if granted < self.most_grants() - len(waiting) else None
         if sid is None:
             return None
-        count = self.most(self.flows[sid], start, room)
-        self.flows[sid].grants.append((start, count))
+        flow = self.flows[sid]
+        is_reserved = self.is_reserved(flow, start, room)
+        count = self.most(flow, start, room, is_reserved)
+        flow.grant(start, count, is_reserved)
         return sid, self.usage(count), count, self.slots_for(count)
 
     def most_grants(self):

@@ -4,6 +4,7 @@ say."""
 
 from itertools import accumulate
 
+from changed import keeps
 from plain import Auditor
 from plain_bursts import Bursts
 
@@ -30,6 +31,11 @@ def allocations_of(reply):
             return found
         found.append((sid, iuc, offset, elements[place + 1][2] - offset, reply["bytes"][place]))
     return found
+
+
+def settles(reply):
+    """Whether a MAP settles: it has no request region, as it has nothing for anybody."""
+    return elements_of(reply)[0][0] != ALL_MODEMS
 
 
 class Meeting(Auditor):
@@ -134,6 +140,11 @@ def uses(config, entries):
     return {name: sum(count[name] for count in frames) for name in uses_told(config)}
 
 
+def reservation_of(flow):
+    """The minimum reserved rate of a flow and its burst: a rate of 0 where it has none."""
+    return [flow.get(name, 0) if flow["kind"] == "best_effort" else 0 for name in ("reserved", "reserved_burst")]
+
+
 class Request:
     """A request at this place of a life: its delay, or None where it was not served, and whether it was replaced. All
     that the flow had asked with it has to be granted before the next request that supersedes it."""
@@ -143,6 +154,39 @@ class Request:
         ends = [end for place, end, reached in life.grants if reached >= wanted and (later is None or place < later)]
         self.delay = ends[0] - life.since[at]["call"]["heard"] if ends else None
         self.is_replaced = self.delay is None and later is not None
+
+
+class Reservation:
+    """The minimum reserved rate of a flow through its life: the bytes that the flow waits for, the data grants under it
+    since it has its numbers, as (start, bytes), and at how many starts of MAPs the flow waited under it."""
+
+    def __init__(self, life):
+        self.config, self.flow, self.waits, self.grants, self.under = life.config, life.first, 0, [], 0
+        for place, entry in enumerate(life.since):
+            self.waits = life.asks[place] + (0 if place in life.replacements else self.waits)
+            if place in life.changes:
+                self.change(entry["call"]["flow"])
+            if entry["reply"]["kind"] == "map":
+                self.map(entry["reply"], life.data_in(place))
+
+    def change(self, flow):
+        before, self.flow = reservation_of(self.flow), flow
+        if reservation_of(flow) != before:
+            self.grants = []
+
+    def is_under(self, start):
+        """Whether the bytes that the flow wants at least keep its reservation, behind the grants under it."""
+        rate, burst = reservation_of(self.flow)
+        wanted = min(self.waits, self.config["quantum"])
+        return rate > 0 and keeps(self.config["ticks"], rate, burst, [*self.grants, (start, wanted)])
+
+    def map(self, reply, grants):
+        if self.waits > 0 and not settles(reply) and self.is_under(reply["start"]):
+            self.under += 1
+        for start, count in grants:
+            if self.is_under(start):
+                self.grants.append((start, count))
+            self.waits -= count
 
 
 class Life:
@@ -160,13 +204,14 @@ class Life:
             self.since.append(entry)
         self.from_slot = next_after(config, entries[:at])
         self.to_slot = next_after(config, entries[:at + 1 + len(self.since)])
-        # What its MAPs have of it, but for opportunities: the place of the entry, the end, the bytes and the IUC.
-        self.allocations = [(place, entry["reply"]["start"] + offset + length, count, iuc)
+        # What its MAPs have of it, but for opportunities: the place of the entry, start, end, bytes and IUC.
+        self.allocations = [(place, start, start + length, count, iuc)
                             for place, entry in enumerate(self.since) if entry["reply"]["kind"] == "map"
                             for sid, iuc, offset, length, count in allocations_of(entry["reply"])
+                            for start in [entry["reply"]["start"] + offset]
                             if sid == self.sid and offset not in met[at + 1 + place]]
         # The data grants of that, each with the bytes granted up to it and with it.
-        given = [(place, end, count) for place, end, count, _ in self.allocations if count > 0]
+        given = [(place, end, count) for place, _, end, count, _ in self.allocations if count > 0]
         self.grants = [(place, end, reached)
                        for (place, end, _), reached in zip(given, accumulate(count for _, _, count in given))]
         # The places of the requests that supersede those before, and the bytes of the request at each place.
@@ -187,6 +232,10 @@ class Life:
         changes = [place for place in self.changes if place < at]
         return self.since[changes[-1]]["call"]["flow"] if changes else self.first
 
+    def data_in(self, at):
+        """Its data grants in the MAP of a place, as (start, bytes)."""
+        return [(start, count) for place, start, _, count, _ in self.allocations if place == at and count > 0]
+
     def granted_before(self, at):
         return max((reached for place, _, reached in self.grants if place < at), default=0)
 
@@ -204,7 +253,7 @@ class Life:
         """The bytes granted: of an unsolicited flow as many for each grant as its parameters said then."""
         if self.flow["kind"] != "unsolicited":
             return self.granted_before(len(self.since))
-        return sum(self.flow_before(place)["size"] for place, _, _, iuc in self.allocations if iuc != REQUEST)
+        return sum(self.flow_before(place)["size"] for place, *_, iuc in self.allocations if iuc != REQUEST)
 
     def delays(self):
         return [request.delay for request in self.requests if request.delay is not None]
@@ -219,6 +268,8 @@ class Life:
                 "waiting": 0 if self.ended else left}
         if self.flow["kind"] == "best_effort":
             told["priority"] = self.flow["priority"]
+        if reservation_of(self.flow)[0] > 0:
+            told["under"] = Reservation(self).under
         return told
 
 

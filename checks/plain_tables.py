@@ -24,6 +24,8 @@ RANK_COUNTS = ((("granted", 9), ("asks", 7), ("served", 7), ("waiting", 5), ("dr
 LIFE_COUNTS = ((("asks", 6), ("waiting", 4), ("dropped", 4)),
                (("asks", 5), ("waiting", 4), ("dropped", 4), ("replaced", 4)))
 RATE = (8, 7)
+RESERVED = ("flows with a minimum reserved rate: frames at whose start they waited under it\n"
+            " SID kind   reserved   frames       %\n")
 
 
 def nearest(value):
@@ -55,7 +57,7 @@ class Tables:
     """The tables of a history's report that has these numbers."""
 
     def __init__(self, history, told):
-        self.ticks, self.told = history["config"]["ticks"], told
+        self.ticks, self.frame, self.told = history["config"]["ticks"], history["config"]["frame"], told
         self.lives = list(zip(lives_of(history["config"], history["entries"]), told["lives"]))
         self.replaced = any(map(is_replacement, history["entries"]))
 
@@ -101,25 +103,42 @@ class Tables:
         return (name + counts
                 + self.delays(rank["delay"], "least", "middle", "p99", "greatest") + "\n")
 
-    def life(self, life, told):
+    def name(self, told):
         kind = {"unsolicited": "unsol", "polled": "polled"}.get(told["kind"], f"best {told.get('priority')}")
+        return f"{told['sid']:>4} {kind:6}"
+
+    def life(self, life, told):
         counts = "".join(number(told[key], width) for key, width in LIFE_COUNTS[self.replaced])
-        return (f"{told['sid']:>4} {kind:6}{self.rate(told['asked'], told)}{self.rate(told['granted'], told)}"
+        return (self.name(told) + self.rate(told["asked"], told) + self.rate(told["granted"], told)
                 + number(life.flow.get("rate") or None, RATE[self.replaced]) + counts
                 + self.delays(told["delay"], "middle", "p99", "greatest") + "\n")
+
+    def lines(self, line, lives, is_all):
+        """The lines of these lives in their order, of the first few where not all are asked for."""
+        # Python's sort keeps the order of those that are alike.
+        by_bytes = sorted(lives, key=lambda it: (-it[1]["asked"], it[0].ended))[:FEW]
+        few = "" if is_all or len(lives) <= FEW else (
+            f"{FEW} of {len(lives)} lives of flows: those that asked for most bytes\n")
+        return "".join(line(*it) for it in (lives if is_all else by_bytes)) + few
 
     def flows(self, is_all):
         if not self.lives:
             return ""
-        # Python's sort keeps the order of those that are alike.
-        by_bytes = sorted(self.lives, key=lambda it: (-it[1]["asked"], it[0].ended))[:FEW]
         order = "in the order of their admissions" if is_all else "those first that asked for the most bytes"
-        few = "" if is_all or len(self.lives) <= FEW else (
-            f"{FEW} of {len(self.lives)} lives of flows: those that asked for most bytes\n")
-        lines = "".join(self.life(*it) for it in (self.lives if is_all else by_bytes))
-        return f"\nflows, {order}:\n{RATES}{FLOWS[self.replaced]}{lines}{few}"
+        lines = self.lines(self.life, self.lives, is_all)
+        return f"\nflows, {order}:\n{RATES}{FLOWS[self.replaced]}{lines}"
+
+    def waited(self, life, told):
+        """How often a flow waited under its reservation."""
+        frames = (told["to"] - told["from"]) // self.frame
+        return (self.name(told) + number(life.flow["reserved"], 8) + number(told["under"], 8)
+                + percent(told["under"], frames) + "\n")
+
+    def reserved(self, is_all):
+        lives = [it for it in self.lives if "under" in it[1]]
+        return f"\n{RESERVED}{self.lines(self.waited, lives, is_all)}" if lives else ""
 
     def text(self, is_all):
         ranks = "".join(self.rank(rank) for rank in self.told["priorities"])
         return (self.head() + self.uses() + self.refused() + (f"\n{RANKS[self.replaced]}{ranks}" if ranks else "")
-                + self.flows(is_all))
+                + self.flows(is_all) + self.reserved(is_all))

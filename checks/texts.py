@@ -37,7 +37,8 @@ CROWDS = [table("runs_of_many_flows"), table("a_run_of_many_grants"), table("a_r
 RANGING, BURSTY = table("runs_with_opportunities"), table("runs_with_bursts")
 LIMITED, CHANGED = table("runs_with_many_flows"), table("runs_with_changed_flows")
 OPENED, SETTLED, PEAKED = table("runs_with_open_idles"), table("runs_that_settle"), table("runs_with_peaks")
-RUNS = [PLAIN, SEVERAL, RANGING, BURSTY, LIMITED, CHANGED, OPENED, SETTLED, PEAKED, *CROWDS]
+RESERVED_RATES = table("runs_with_reservations")
+RUNS = [PLAIN, SEVERAL, RANGING, BURSTY, LIMITED, CHANGED, OPENED, SETTLED, PEAKED, RESERVED_RATES, *CROWDS]
 REPLIES, BUILD = table("a_history_with_each_reply"), table("a_history_of_one_build")
 CALLS = read("checks/rows/calls_of_each_name")
 

@@ -155,8 +155,8 @@ class KeepsTheOldRank(Flow):
         other.old_rank = self.rank() if self.kind != "unsolicited" else 0
         return other
 
-    def rank(self):
-        return getattr(self, "old_rank", super().rank())
+    def rank(self, is_reserved=False):
+        return getattr(self, "old_rank", super().rank(is_reserved))
 
 
 class NewLife(Flow):

@@ -176,8 +176,9 @@ struct mapsched_call {
     uint8_t ranging_end;
   };
   uint8_t data_start, data_end;
-  uint8_t has_slots; /* of a request: 0 where bytes are read, else slots are */
-  uint32_t peak;     /* of a polled or best effort flow: bits per second, or 0 */
+  uint8_t has_slots;                 /* of a request: 0 where bytes are read, else slots are */
+  uint32_t peak;                     /* of a polled or best effort flow: bits per second, or 0 */
+  uint32_t reserved, reserved_burst; /* of a best effort flow: bits per second, or 0; bytes */
 };
 /* checks/tables: call end */
 

@@ -25,7 +25,7 @@ static struct mapsched_config lawful(void) {
 }
 
 /* The bytes of a call up to its last number: what is behind it in the struct is nobody's. */
-enum { NUMBERS = offsetof(struct mapsched_call, has_slots) + 1 };
+enum { NUMBERS = offsetof(struct mapsched_call, reserved_burst) + sizeof(uint32_t) };
 
 static int failures = 0;
 
@@ -528,7 +528,7 @@ static void words(void) {
   WANT(length == sizeof late - 1 && memcmp(room, late, sizeof late) == 0);
   length = 99;
   WANT(mapsched_refusal_words(0, 0, room, sizeof room, &length) == MAPSCHED_NO_WORDS && length == 99);
-  WANT(mapsched_refusal_words(3, 8, room, sizeof room, &length) == MAPSCHED_NO_WORDS && length == 99);
+  WANT(mapsched_refusal_words(3, 9, room, sizeof room, &length) == MAPSCHED_NO_WORDS && length == 99);
   WANT(mapsched_refusal_words(24, 0, room, sizeof room, &length) == MAPSCHED_NO_WORDS && room[0] == 't');
 }
 
@@ -595,6 +595,11 @@ int main(void) {
                                 .interval_us = 20000,
                                 .jitter_us = 1000,
                                 .grants = 1};
+  struct mapsched_call assured = {.kind = MAPSCHED_ADMIT,
+                                  .flow = MAPSCHED_BEST_EFFORT,
+                                  .sid = 6,
+                                  .reserved = 64000,
+                                  .reserved_burst = 63};
   struct mapsched_call unknown = {.kind = 13}, strange = {.kind = MAPSCHED_ADMIT, .flow = 3};
   struct mapsched_call bytes = {.kind = MAPSCHED_STATUS, .sid = 9};
   struct mapsched_call build = {.kind = MAPSCHED_BUILD, .minislot = 760};
@@ -719,14 +724,21 @@ int main(void) {
 
   /* No grants in an interval are bad parameters; three have three starts in the one nominal frame of the cycle. */
   voice.grants = 0;
+  config.calls = 4;
   WANT(mapsched_open(&scheduler, &config) == MAPSCHED_OK);
   WANT(mapsched_call(&scheduler, &stamp, &voice, &reply) == MAPSCHED_OK && reply.kind == MAPSCHED_REFUSED);
   WANT(reply.refusal == 3 && reply.value == 7);
+  /* So is a minimum reserved rate whose burst is below the quantum, and one that is not is in the history. */
+  WANT(mapsched_call(&scheduler, &stamp, &assured, &reply) == MAPSCHED_OK && reply.kind == MAPSCHED_REFUSED);
+  WANT(reply.refusal == 3 && reply.value == 8);
+  assured.reserved_burst = config.quantum;
+  WANT(mapsched_call(&scheduler, &stamp, &assured, &reply) == MAPSCHED_OK && reply.kind == MAPSCHED_ADMITTED);
+  WANT(mapsched_entry(&scheduler, 2, &entry) == MAPSCHED_OK && memcmp(&entry.call, &assured, NUMBERS) == 0);
   voice.grants = 3;
   WANT(mapsched_call(&scheduler, &stamp, &voice, &reply) == MAPSCHED_OK && reply.kind == MAPSCHED_PLACED);
   WANT(reply.value == 804 && reply.starts_count == 3);
   WANT(reply.starts[0] == 4 && reply.starts[1] == 10 && reply.starts[2] == 16);
-  WANT(mapsched_entry(&scheduler, 1, &entry) == MAPSCHED_OK && memcmp(&entry.call, &voice, NUMBERS) == 0);
+  WANT(mapsched_entry(&scheduler, 3, &entry) == MAPSCHED_OK && memcmp(&entry.call, &voice, NUMBERS) == 0);
   WANT(mapsched_close(&scheduler) == MAPSCHED_OK);
   WANT(strcmp(mapsched_status_text(22), "unknown status") == 0);
   WANT(strcmp(mapsched_status_text(100), "unknown status") == 0);

@@ -52,15 +52,19 @@ def peak_of(flow, now):
     return Bucket(flow.get("peak", 0), PEAK_BURST, now)
 
 
+def reserved_of(flow, now):
+    return Bucket(flow.get("reserved", 0), flow.get("reserved_burst", 0), now)
+
+
 class Life:
     """A flow from its admission to its removal."""
 
     def __init__(self, config, sid, flow, first):
         self.config, self.sid, self.flow = config, sid, flow
         self.first, self.last = first, None
-        self.asked = self.granted = self.asks = self.replaces = self.replaced = 0
+        self.asked = self.granted = self.asks = self.replaces = self.replaced = self.under = 0
         self.unserved, self.delays = deque(), []
-        self.rate, self.peak = rate_of(flow, first), peak_of(flow, first)
+        self.rate, self.peak, self.reserved = rate_of(flow, first), peak_of(flow, first), reserved_of(flow, first)
         self.voice_at, self.late = None, 0
         self.rests, self.silent = False, 0
 
@@ -85,11 +89,13 @@ class Life:
             self.ask(count, heard)
 
     def change(self, flow, now):
-        """Other parameters. A ceiling of which a number is another begins full, the other goes on."""
+        """Other parameters. A ceiling or a reservation of which a number is another begins full, the others go on."""
         if any(flow.get(it) != self.flow.get(it) for it in ("rate", "burst")):
             self.rate = rate_of(flow, now)
         if flow.get("peak", 0) != self.flow.get("peak", 0):
             self.peak = peak_of(flow, now)
+        if any(flow.get(it, 0) != self.flow.get(it, 0) for it in ("reserved", "reserved_burst")):
+            self.reserved = reserved_of(flow, now)
         self.flow = flow
 
     def hears(self, speaks):
@@ -110,10 +116,22 @@ class Life:
             self.late += 1
         self.voice_at = start
 
+    def begins_frame(self, start):
+        """A frame starts, and is counted where the flow waits under its reservation: that has room for the quantum, or
+        for less where that is all."""
+        wanted = min(self.outstanding(), self.config["quantum"])
+        if self.reserved.rate and 0 < wanted <= self.reserved.allows(self.config["ticks"], start):
+            self.under += 1
+
     def grant(self, start, slots):
-        """The bytes of a data grant: what it carries, as far as they were asked for and the ceilings let them."""
+        """The bytes of a data grant: what it carries, as far as they were asked for and the ceilings let them. Where
+        the reservation has room for the quantum, or for less where that is all, the grant is of it and within it."""
         room = (slots - self.config["overhead"]) * self.config["bytes_per_slot"]
         count = min(self.outstanding(), room, self.config["grant_cap"], *self.ceilings(start))
+        reserved = self.reserved.allows(self.config["ticks"], start)
+        if self.reserved.rate and reserved >= min(self.outstanding(), self.config["quantum"]):
+            count = min(count, reserved)
+            self.reserved.take(count)
         self.rate.take(count)
         self.peak.take(count)
         self.granted += count
@@ -141,6 +159,8 @@ class Life:
             told.update(dropped=0, to=now, waiting=len(self.unserved))
         if self.flow["kind"] == "best_effort":
             told["priority"] = self.flow["priority"]
+        if self.reserved.rate:
+            told["under"] = self.under
         return told
 
 
@@ -172,6 +192,8 @@ class Counts:
         self.frames += 1
         self.first = start if self.first is None else self.first
         self.last = start + self.config["frame"]
+        for life in self.live.values():
+            life.begins_frame(start)
 
     def has_replaced(self):
         """Whether a request came in the place of those before: only then it is told what was replaced."""

@@ -150,12 +150,14 @@ class Polled:
 
 @dataclass(frozen=True)
 class BestEffort:
-    """A flow that asks in the request region. Priority 7 is the highest."""
+    """A flow that asks in the request region. Priority 7 is the highest; a reserved rate of 0 is no reservation."""
 
     priority: int
     rate: int
     burst: int
     peak: int = 0
+    reserved: int = 0
+    reserved_burst: int = 0
 
 
 Flow = Union[Unsolicited, Polled, BestEffort]

@@ -85,6 +85,7 @@ class CallNumbers(Structure):
         *((name, c_uint8) for name in ("data_start", "data_end")),
         ("has_slots", c_uint8),
         ("peak", c_uint32),
+        *((name, c_uint32) for name in ("reserved", "reserved_burst")),
     ]
 # checks/tables: call end
 

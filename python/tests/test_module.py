@@ -257,6 +257,32 @@ class Module(unittest.TestCase):
             self.assertRaises(ValueError, scheduler.call, Admit(18, dataclasses.replace(flow, peak=2**32)))
         self.assertRaises(TypeError, Unsolicited, size=1, interval_us=1000, jitter_us=0, peak=1)
 
+    def test_a_flow_has_a_reservation_where_it_is_told_one(self):
+        flow, other = BestEffort(priority=0, rate=0, burst=0), BestEffort(priority=7, rate=0, burst=0)
+        self.assertEqual(flow, BestEffort(0, 0, 0, 0, 0, 0))
+        told = {"kind": "best_effort", "priority": 0, "rate": 0, "burst": 0, "reserved": 512000, "reserved_burst": 64}
+        admission = mapsched.call_of({"call": "admit", "sid": 20, "flow": told})
+        self.assertEqual(admission, Admit(20, dataclasses.replace(flow, reserved=512000, reserved_burst=64)))
+        more, less = dataclasses.replace(admission.flow, reserved_burst=65), dataclasses.replace(flow, reserved=1)
+        with Scheduler(CONFIG) as scheduler:
+            for call in (Build(760), admission, Admit(21, other), Ask(0, 20, 3000, 801), Ask(0, 21, 3000, 801)):
+                scheduler.call(call)
+            for now, granted in ((800, 64), (840, 128)):
+                self.assertIsInstance(scheduler.call(Build(now)), Built)
+                self.assertEqual(scheduler.call(Status(20)), FlowBytes(3000, granted, 3000 - granted))
+            self.assertEqual(scheduler.call(Change(20, more)), Changed())
+            scheduler.call(Build(880))
+            self.assertEqual(scheduler.call(Change(20, less)).line, "refused 3 8")
+            self.assertEqual(scheduler.call(Change(20, flow)), Changed())
+            scheduler.call(Build(920))
+            self.assertEqual(scheduler.call(Status(20)), FlowBytes(3000, 193, 2807))
+            self.assertEqual(scheduler.call(Status(21)), FlowBytes(3000, 1872, 1128))
+            self.assertEqual([scheduler[1].call, scheduler[9].call], [admission, Change(20, more)])
+            for name in ("reserved", "reserved_burst"):
+                wrong = dataclasses.replace(flow, **{name: 2**32})
+                self.assertRaises(ValueError, scheduler.call, Admit(18, wrong))
+        self.assertRaises(TypeError, Polled, interval_us=1000, jitter_us=0, rate=0, burst=0, reserved=1)
+
     def test_a_request_supersedes_those_before(self):
         requests = [Replace(0, 17, 200, 841), Replace(0, 17, heard=841, slots=9), Replace(0, 17, 0, 841)]
         with Scheduler(CONFIG) as scheduler:

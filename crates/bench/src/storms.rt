@@ -69,6 +69,8 @@ pub(crate) fn call_of(worker: usize, number: usize) -> Call {
         rate: 4_000_000,
         burst: 100_000,
         peak: 0,
+        reserved: 0,
+        reserved_burst: 0,
     };
     let ask = Call::Ask {
         receiver: 0,

@@ -54,11 +54,12 @@ a_polled_flow_with_too_great_a_peak : flow_of (polled (peak (number (unsigned (2
 unfolding flow_of polled_of u32_or u32_at number_at text_at
 a_polled_flow_with_too_great_a_peak = refl
 
-a_flow_of_best_effort_with_a_peak : flow_of (best_effort (peak (number (unsigned 3)))) ≡ Some (BestEffort 7 1 2 3)
+a_flow_of_best_effort_with_a_peak : flow_of (best_effort (peak (number (unsigned 3)))) ≡ Some (BestEffort 7 1 2 3 0 0)
 unfolding flow_of best_effort_of u32_or u8_at u32_at number_at text_at
 a_flow_of_best_effort_with_a_peak = refl
 
-a_flow_of_best_effort_with_a_peak_of_0 : flow_of (best_effort (peak (number (unsigned 0)))) ≡ Some (BestEffort 7 1 2 0)
+a_flow_of_best_effort_with_a_peak_of_0 : flow_of (best_effort (peak (number (unsigned 0))))
+    ≡ Some (BestEffort 7 1 2 0 0 0)
 unfolding flow_of best_effort_of u32_or u8_at u32_at number_at text_at
 a_flow_of_best_effort_with_a_peak_of_0 = refl
 
@@ -67,7 +68,34 @@ a_flow_of_best_effort_with_another_value : flow_of (best_effort (peak null)) ≡
 unfolding flow_of best_effort_of u32_or u8_at u32_at number_at text_at
 a_flow_of_best_effort_with_another_value = refl
 
--- it is a key that nobody reads beside unsolicited grants
+-- what stands for a reserved rate and for its burst
+abbrev reserved : Data → Data → Members
+reserved rate burst = put (codes "reserved") rate (put (codes "reserved_burst") burst no_members)
+
+a_flow_of_best_effort_with_a_reserved_rate :
+    flow_of (best_effort (reserved (number (unsigned 3)) (number (unsigned 4))))
+    ≡ Some (BestEffort 7 1 2 0 3 4)
+unfolding flow_of best_effort_of u32_or u8_at u32_at number_at text_at
+a_flow_of_best_effort_with_a_reserved_rate = refl
+
+-- each may be missing by itself
+a_flow_of_best_effort_with_a_reserved_burst_alone :
+    flow_of (best_effort (put (codes "reserved_burst") (number (unsigned 4)) no_members))
+    ≡ Some (BestEffort 7 1 2 0 0 4)
+unfolding flow_of best_effort_of u32_or u8_at u32_at number_at text_at
+a_flow_of_best_effort_with_a_reserved_burst_alone = refl
+
+a_flow_of_best_effort_with_too_great_a_reserved_burst :
+    flow_of (best_effort (reserved (number (unsigned 3)) (number (unsigned (2 ^ 32))))) ≡ None
+unfolding flow_of best_effort_of u32_or u8_at u32_at number_at text_at
+a_flow_of_best_effort_with_too_great_a_reserved_burst = refl
+
+-- both are keys that nobody reads beside another kind
+a_polled_flow_beside_a_reserved_rate : flow_of (polled (reserved null null)) ≡ Some (Polled 20000 2000 1 2 0)
+unfolding flow_of polled_of u32_or u32_at number_at text_at
+a_polled_flow_beside_a_reserved_rate = refl
+
+-- a peak rate is a key that nobody reads beside unsolicited grants
 an_unsolicited_flow_beside_a_peak : flow_of (unsolicited (peak null)) ≡ Some (Unsolicited 232 20000 800 1)
 unfolding flow_of unsolicited_of u8_or u8_at u32_at number_at text_at
 an_unsolicited_flow_beside_a_peak = refl
@@ -175,7 +203,7 @@ abbrev of_flow : List ℕ → ℕ → Members → Data
 of_flow name n more = object (put (codes "call") (string name) (put (codes "sid") (number (unsigned n)) more))
 
 a_change : (sort : Sort) → call_of (of_flow (codes "change") 17 (put (codes "flow") (flow sort) no_members))
-    ≡ Some (Change 17 (BestEffort 7 0 0 0))
+    ≡ Some (Change 17 (BestEffort 7 0 0 0 0 0))
 unfolding call_of change_call flow_of best_effort_of u32_or u8_at u16_at u32_at number_at text_at
 a_change sort = refl
 

@@ -33,14 +33,16 @@ polled_of d = do
   peak ← u32_or 0 (codes "peak") d
   Some (Polled interval jitter rate burst peak)
 
--- a best effort flow: the same
+-- a best effort flow: the same, and nothing is reserved where its reserved rate is missing
 unfoldable pub best_effort_of : Data → Option FlowSpec
 best_effort_of d = do
   priority ← u8_at (codes "priority") d
   rate ← u32_at (codes "rate") d
   burst ← u32_at (codes "burst") d
   peak ← u32_or 0 (codes "peak") d
-  Some (BestEffort priority rate burst peak)
+  reserved ← u32_or 0 (codes "reserved") d
+  reserved-burst ← u32_or 0 (codes "reserved_burst") d
+  Some (BestEffort priority rate burst peak reserved reserved-burst)
 
 -- the flow that an object stands for, by its kind
 unfoldable pub flow_of : Data → Option FlowSpec

@@ -50,16 +50,25 @@ fn polled_of<T: Tree>(value: &T) -> Option<FlowSpec>
     })
 }
 
-// So is that of a best effort flow.
+// So is that of a best effort flow, and its reserved rate, which is none, and the burst of it.
 #[tactic(auto, unfolding(crate::specs::Calls::best_effort_of))]
 fn best_effort_of<T: Tree>(value: &T) -> Option<FlowSpec>
     ensures { result ≡ best_effort_of (T.shown value.now) }
 {
-    let (Some(priority), Some(rate), Some(burst), Some(peak)) = (
+    let (
+        Some(priority),
+        Some(rate),
+        Some(burst),
+        Some(peak),
+        Some(reserved),
+        Some(reserved_burst),
+    ) = (
         number_u8(value, "priority"),
         number_u32(value, "rate"),
         number_u32(value, "burst"),
         number_u32_or(value, "peak", 0),
+        number_u32_or(value, "reserved", 0),
+        number_u32_or(value, "reserved_burst", 0),
     ) else {
         return None;
     };
@@ -68,6 +77,8 @@ fn best_effort_of<T: Tree>(value: &T) -> Option<FlowSpec>
         rate,
         burst,
         peak,
+        reserved,
+        reserved_burst,
     })
 }
 

@@ -6,6 +6,7 @@ mod config;
 mod counts;
 mod json_text;
 mod lines;
+mod load;
 mod nearest;
 mod notes;
 mod objects;

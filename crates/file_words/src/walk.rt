@@ -14,7 +14,7 @@ const DEPTH: usize = 3;
 // Whether a refusal has this number, with this value or none.
 fn is_refusal(number: u64, value: Option<u64>) -> bool {
     match (number, value) {
-        (3, Some(reason)) => 1 <= reason && reason <= 7,
+        (3, Some(reason)) => 1 <= reason && reason <= 8,
         (11 | 12 | 13 | 15 | 16 | 17, value) => value.is_some(),
         (1..=23, None) => number != 3,
         _ => false,

@@ -4,6 +4,7 @@ use super::bursts::tell_bursts;
 use super::config::tell_field;
 use super::counts::{tell_frame, tell_unrecorded};
 use super::json_text::tell_text;
+use super::load::tell_load;
 use super::notes::Notes;
 use super::settling::tell_settle;
 use json_fields::forms::Kind;
@@ -59,6 +60,7 @@ pub fn words_on(
             tell_good(&mut words, kind, &config, &notes, scripts)?;
             tell_bursts(&mut words, &config, document)?;
             tell_settle(&mut words, &config)?;
+            tell_load(alloc, &mut words, &config, document)?;
         }
         Err(TextFault::Config(field)) => tell_field(&mut words, document, field)?,
         Err(_) => {}

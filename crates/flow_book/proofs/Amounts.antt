@@ -1,5 +1,5 @@
 -- From what the ceilings leave to a flow follow its amount and whether it may be served.
-use Rattle.std.proofs.Common.{◌≡◌, sym, subst, ℕ, ◌<◌, ◌≤◌, min, true, nat_eq, IsTrue, ◌↔◌, inl, inr, arith}
+use Rattle.std.proofs.Common.{◌≡◌, refl, sym, ap, subst, ℕ, ◌<◌, ◌≤◌, ◌==◌, min, Bool, true, false, not, cond, [], ◌∷◌, ◌++◌, nat_eq, IsTrue, ◌↔◌, inl, inr, arith}
 use Rattle.std.proofs.lemmas.Bool.{cases_eq}
 use Rattle.std.proofs.lemmas.Bool.Decides.{nat_tests}
 use Rattle.minislots.specs.declared.config.Config.{Config}
@@ -8,13 +8,16 @@ use Rattle.minislots.specs.Bursts.{HasBursts}
 use Rattle.minislots.specs.Units.{slots_for, bytes_in}
 use Rattle.minislots.proofs.Bounds.{bounds_of}
 use Rattle.minislots.proofs.UnitLaws.{fits_bytes, fits_slots}
-use Rattle.sched_calls.specs.FlowSpec.{takes_requests, rate_of, burst_of, peak_of}
+use Rattle.sched_calls.specs.FlowSpec.{takes_requests, rate_of, burst_of, peak_of, reserved_of, reserved_burst_of}
 use Rattle.sched_calls.specs.declared.spec.TheConstants.{PEAK_BURST}
 use Rattle.flow_book.specs.declared.limits.Limits.{Limits}
-use Rattle.flow_book.specs.Flows.{LiveFlow, outstanding, in_period, in_peak_period}
+use Rattle.flow_book.specs.Flows.{LiveFlow, outstanding, in_period, in_peak_period, in_reserved_period}
 use Rattle.flow_book.specs.Choice.{KeepsWith, MayGrant, IsAmount, IsMost, IsEligible}
-use Rattle.flow_book.specs.Bucket.{HaveStartedBy, most_of}
-use Rattle.flow_book.specs.Limits.{AreLimitsOf, most_in}
+use Rattle.flow_book.specs.Bucket.{HaveStartedBy, most_of, reserves}
+use Rattle.flow_book.specs.Ceiling.{KeepsCeiling}
+use Rattle.flow_book.specs.Reserved.{wanted_of, is_under}
+use Rattle.flow_book.proofs.Reservation.{both-hold, under-reserves}
+use Rattle.flow_book.specs.Limits.{HasPeriods, AreLimitsOf, most_in, most_with}
 use Rattle.flow_book.proofs.Buckets.{most-within, most-kept, most-greatest}
 use Rattle.flow_book.proofs.Started.{started-drop}
 
@@ -69,41 +72,99 @@ module _ (c : Config) (f : LiveFlow) (start room limit most : ℕ) where
       grind (arith, nat_tests) in
       (whole, same)
 
--- of the bytes up to a limit the flow may have what its buckets have
-pub limits-within : (c : Config) (f : LiveFlow) (l : Limits) (start room limit most : ℕ)
-    → AreLimitsOf c f l → HaveStartedBy start f.grants
-    → most ≡ most_in l start limit → IsWithin c f start room limit most
-limits-within c f l start room limit most are started is =
-    let rate = rate_of f.spec in
-    let burst = burst_of f.spec in
-    let grants = in_period f in
-    let began = started-drop start f.earlier f.grants started in
-    let peak = peak_of f.spec in
-    let recent = in_peak_period f in
-    let began' = started-drop start f.peak_earlier f.grants started in
-    let less = most_of l.peak start limit in
-    let under : less ≤ limit = most-within c peak PEAK_BURST l.peak recent are.peak start 0 began' limit in
-    let lower : most ≤ less = rw is (most-within c rate burst l.sustained grants are.sustained start 0 began less) in
-    record {
-      within = omega (arith, under, lower);
-      keeps = λ n some le. record {
-        sustained = most-kept c rate burst l.sustained grants are.sustained start n began less (omega (arith, le, is));
-        peak = most-kept c peak PEAK_BURST l.peak recent are.peak start n began' limit (omega (arith, le, lower));
-      };
-      greatest = λ n some le kept.
-          let fits = most-greatest c peak PEAK_BURST l.peak recent are.peak start n began' limit le kept.peak in
-          let all = most-greatest c rate burst l.sustained grants are.sustained start n began less fits kept.sustained in
-          omega (arith, all, is);
-    }
+-- of the bytes up to a limit the flow may have what its buckets have, under its reservation no more than that leaves
+module _ (c : Config) (f : LiveFlow) (l : Limits) (start room limit most : ℕ) (stand : AreLimitsOf c f l)
+    (has : HasPeriods f) (started : HaveStartedBy start f.grants) where
+  abbrev cap : Bool → ℕ
+  cap b = cond b (most_of l.reserved start limit) limit
+
+  under : is_under c start f ≡ reserves l.reserved start (wanted_of c f)
+  under = under-reserves c f l start stand has started
+
+  began : HaveStartedBy start (in_period f)
+  began = started-drop start f.earlier f.grants started
+
+  began-peak : HaveStartedBy start (in_peak_period f)
+  began-peak = started-drop start f.peak_earlier f.grants started
+
+  began-reserved : HaveStartedBy start (in_reserved_period f)
+  began-reserved = started-drop start f.reserved_earlier f.reserved (has.among start started)
+
+  -- what both ceilings leave of some bytes is no more than these
+  most-below : (n : ℕ) → most_in l start n ≤ most_of l.peak start n × (most_of l.peak start n ≤ n)
+  most-below n = (
+    most-within c (rate_of f.spec) (burst_of f.spec) l.sustained (in_period f) stand.sustained start 0 began
+        (most_of l.peak start n),
+    most-within c (peak_of f.spec) PEAK_BURST l.peak (in_peak_period f) stand.peak start 0 began-peak n,
+  )
+
+  -- and no more than a reservation leaves where that counts
+  cap-below : (b : Bool) → cap b ≤ limit
+  cap-below true =
+      most-within c (reserved_of f.spec) (reserved_burst_of f.spec) l.reserved (in_reserved_period f) stand.reserved
+      start 0 began-reserved limit
+  cap-below false = omega arith
+
+  reserved-kept : (b : Bool) (n : ℕ) → is_under c start f ≡ b → n ≤ cap b → is_under c start f ≡ true
+      → KeepsCeiling c (reserved_of f.spec) (reserved_burst_of f.spec)
+      (in_reserved_period f ++ record { start = start; bytes = n } ∷ [])
+  reserved-kept true n is le yes' =
+      most-kept c (reserved_of f.spec) (reserved_burst_of f.spec) l.reserved (in_reserved_period f) stand.reserved
+      start n began-reserved limit le
+  reserved-kept false n is le yes' = absurd (cc)
+
+  cap-greatest : (b : Bool) (n : ℕ) → is_under c start f ≡ b → n ≤ limit → KeepsWith c f start n → n ≤ cap b
+  cap-greatest true n is le kept =
+      most-greatest c (reserved_of f.spec) (reserved_burst_of f.spec) l.reserved (in_reserved_period f) stand.reserved
+      start n began-reserved limit le (kept.reserved is)
+  cap-greatest false n is le kept = le
+
+  within-by : (b : Bool) → is_under c start f ≡ b → most ≡ most_in l start (cap b) → IsWithin c f start room limit most
+  within-by b is same =
+      let below = most-below (cap b) in
+      let under-cap = cap-below b in
+      record {
+        within = omega (arith, same, below.0, below.1, under-cap);
+        keeps = λ n some le. record {
+          sustained = most-kept c (rate_of f.spec) (burst_of f.spec) l.sustained (in_period f) stand.sustained start n
+              began (most_of l.peak start (cap b)) (omega (arith, le, same));
+          peak = most-kept c (peak_of f.spec) PEAK_BURST l.peak (in_peak_period f) stand.peak start n began-peak (cap b)
+              (omega (arith, le, same, below.0));
+          reserved = reserved-kept b n is (omega (arith, le, same, below.0, below.1));
+        };
+        greatest = λ n some le kept.
+            let low = cap-greatest b n is le kept in
+            let fits = most-greatest c (peak_of f.spec) PEAK_BURST l.peak (in_peak_period f) stand.peak start n
+            began-peak (cap b) low kept.peak in
+            let all = most-greatest c (rate_of f.spec) (burst_of f.spec) l.sustained (in_period f) stand.sustained start
+            n began (most_of l.peak start (cap b)) fits kept.sustained in
+            omega (arith, all, same);
+      }
+
+  pub limits-within : most ≡ most_with l start (wanted_of c f) limit → IsWithin c f start room limit most
+  limits-within is =
+      within-by (reserves l.reserved start (wanted_of c f)) under is
+
+-- of what is wanted at least a reservation leaves all where it counts
+pub wanted-whole : (l : Limits) (start wanted : ℕ) → most_with l start wanted wanted ≡ most_in l start wanted
+wanted-whole l start wanted = ap (most_in l start) (whole (reserves l.reserved start wanted) refl)
+  where
+    whole : (b : Bool) → reserves l.reserved start wanted ≡ b
+        → cond b (most_of l.reserved start wanted) wanted ≡ wanted
+    whole true is =
+        let all : (most_of l.reserved start wanted == wanted) ≡ true =
+        (both-hold (not (l.reserved.per_slot == 0)) (most_of l.reserved start wanted == wanted) is).1 in
+        grind (arith, nat_tests)
+    whole false is = refl
 
 -- so with the limit of what is outstanding, capped and fits, what the buckets have are the most
 pub most-in-limits : (c : Config) (f : LiveFlow) (l : Limits) (start room limit most : ℕ) → IsLawful c
     → limit ≡ min (min (outstanding f) c.grant_cap) (bytes_in c room)
-    → AreLimitsOf c f l → HaveStartedBy start f.grants
-    → most ≡ most_in l start limit → IsMost c f start room most
-most-in-limits c f l start room limit most lawful limits are started is =
+    → AreLimitsOf c f l → HasPeriods f → HaveStartedBy start f.grants
+    → most ≡ most_with l start (wanted_of c f) limit → IsMost c f start room most
+most-in-limits c f l start room limit most lawful limits are has started is =
     most-is c f start room limit most (bounds_of c lawful).bursts limits
-    (limits-within c f l start room limit most are started is)
+    (limits-within c f l start room limit most are has started is)
 
 -- the cap is the same before and after it is asked what fits
 pub capped-once : (limit asked cap room left : ℕ) → room ≡ min left cap → limit ≡ min (min asked cap) room
@@ -129,3 +190,13 @@ module _ (c : Config) (lawful : IsLawful c) (start room : ℕ) where
     | inl none ↦ absurd (is.none none (min (outstanding f) c.quantum) (some_may f may))
     | inr some ↦ is.amount (omega arith)
   ]
+
+-- a flow may have some bytes where its buckets have all of them
+pub keeps-most : (c : Config) (f : LiveFlow) (l : Limits) (start bytes : ℕ) → AreLimitsOf c f l → HasPeriods f
+    → HaveStartedBy start f.grants → KeepsWith c f start bytes → most_with l start (wanted_of c f) bytes ≡ bytes
+keeps-most c f l start bytes stand has started kept =
+    let is = limits-within c f l start 0 bytes (most_with l start (wanted_of c f) bytes) stand has started refl in
+    elim (cases_eq bytes 0) [
+      | inl none ↦ omega (arith, is.within, none)
+      | inr some ↦ omega (arith, is.within, is.greatest bytes (omega (arith, some)) (omega arith) kept)
+    ]

@@ -1,6 +1,6 @@
 -- One flow of a list is changed.
 use Rattle.std.proofs.Common.{◌≡◌, refl, sym, ap, ◌∙◌, ℕ, zero, suc, ◌<◌, ◌==◌, List, [], ◌∷◌, map, length, get_or}
-use Rattle.std.proofs.Common.{set, if◌then◌else◌, arith}
+use Rattle.std.proofs.Common.{set, Bool, true, false, if◌then◌else◌, arith}
 use Rattle.std.specs.List.{AllByRecursion}
 use Rattle.std.proofs.lemmas.Bool.Decides.{nat_tests}
 use Rattle.std.proofs.lemmas.List.{map-set, length-map}
@@ -10,13 +10,16 @@ use Rattle.sched_calls.proofs.Insertion.{all-set}
 use Rattle.flow_book.specs.declared.flow.Flow.{Flow}
 use Rattle.std.proofs.lemmas.List.Sums.{sum_by-append}
 use Rattle.flow_book.specs.declared.flow.Grant.{Grant}
-use Rattle.flow_book.specs.Flows.{LiveFlow, with_grant}
+use Rattle.flow_book.specs.Flows.{LiveFlow, in_reserved_period}
+use Rattle.flow_book.specs.Reserved.{is_under, with_grant}
+use Rattle.flow_book.specs.Ceiling.{KeepsCeiling}
+use Rattle.sched_calls.specs.FlowSpec.{reserved_of, reserved_burst_of}
 use Rattle.flow_book.specs.Choice.{MayGrant}
 use Rattle.flow_book.proofs.Windows.{bytes-one}
 use Rattle.flow_book.specs.Limits.{HasPeriods}
 use Rattle.flow_book.specs.Entry.{live, IsSoundFlow, IsSoundBook}
 use Rattle.flow_book.specs.Book.{Ascend, Room, BookView, changed, with_asked, with_replaced}
-use Rattle.flow_book.proofs.Periods.{period-more, peak-more}
+use Rattle.flow_book.proofs.Periods.{period-more, peak-more, reserved-more, reserved-same}
 use Rattle.flow_book.proofs.Places.{StandsAt, all-found}
 
 -- SIDs ascend where a flow takes the place of one with its SID
@@ -100,12 +103,22 @@ placed-is_sound c sid items i f are is =
 -- to ask for more keeps a flow sound
 pub asked-sound : (c : Config) (bytes heard : ℕ) (f : LiveFlow) → IsSoundFlow c f
     → IsSoundFlow c (with_asked bytes heard f)
-asked-sound c bytes heard f is = record { within = omega (arith, is.within); kept = is.kept; peak_kept = is.peak_kept }
+asked-sound c bytes heard f is = record {
+  within = omega (arith, is.within);
+  kept = is.kept;
+  peak_kept = is.peak_kept;
+  reserved_kept = is.reserved_kept;
+}
 
 -- so does to ask for other bytes in the place of those outstanding
 pub replaced-sound : (c : Config) (bytes heard : ℕ) (f : LiveFlow) → IsSoundFlow c f
     → IsSoundFlow c (with_replaced bytes heard f)
-replaced-sound c bytes heard f is = record { within = omega arith; kept = is.kept; peak_kept = is.peak_kept }
+replaced-sound c bytes heard f is = record {
+  within = omega arith;
+  kept = is.kept;
+  peak_kept = is.peak_kept;
+  reserved_kept = is.reserved_kept;
+}
 
 -- a book of these flows and rooms
 abbrev pub view-of : Config → List LiveFlow → List Room → BookView
@@ -118,11 +131,20 @@ same-view c fs gs rs ss flows rooms = rw (flows, rooms)
 
 -- a lawful grant keeps a flow sound
 pub granted-sound : (c : Config) (start bytes room : ℕ) (f : LiveFlow) → IsSoundFlow c f → HasPeriods f
-    → MayGrant c f start room bytes → IsSoundFlow c (with_grant (record { start = start; bytes = bytes }) f)
+    → MayGrant c f start room bytes → IsSoundFlow c (with_grant c (record { start = start; bytes = bytes }) f)
 granted-sound c start bytes room f is has may =
-    let all = sum_by-append (λ (g : Grant). g.bytes) f.grants (record { start = start; bytes = bytes } ∷ []) in
+    let g : Grant = record { start = start; bytes = bytes } in
+    let all = sum_by-append (λ (g : Grant). g.bytes) f.grants (g ∷ []) in
     record {
       within = omega (arith, is.within, may.asked, bytes-one start bytes);
-      kept = rw (period-more f (record { start = start; bytes = bytes }) has.sustained) may.taken.ceiling.sustained;
-      peak_kept = rw (peak-more f (record { start = start; bytes = bytes }) has.peak) may.taken.ceiling.peak;
+      kept = rw (period-more c f g has.sustained) may.taken.ceiling.sustained;
+      peak_kept = rw (peak-more c f g has.peak) may.taken.ceiling.peak;
+      reserved_kept = kept-by (is_under c start f) refl;
     }
+  where
+    kept-by : (b : Bool) → is_under c start f ≡ b → KeepsCeiling c (reserved_of f.spec) (reserved_burst_of f.spec)
+        (in_reserved_period (with_grant c (record { start = start; bytes = bytes }) f))
+    kept-by true under =
+        rw (reserved-more c f (record { start = start; bytes = bytes }) has.reserved under)
+        (may.taken.ceiling.reserved under)
+    kept-by false over = rw (reserved-same c f (record { start = start; bytes = bytes }) over) is.reserved_kept

@@ -9,7 +9,7 @@ use Rattle.std.proofs.lemmas.List.{length-map, length-take, get_or-take, get_or_
 use Rattle.std.proofs.lemmas.List.Elements.{All-from_recursion, recursion_from_All}
 use Rattle.std.proofs.lemmas.List.Sums.{length-filter}
 use Rattle.minislots.specs.declared.config.Config.{Config}
-use Rattle.sched_calls.specs.FlowSpec.{rank_of}
+use Rattle.flow_book.specs.Entry.{top_rank}
 use Rattle.flow_book.specs.declared.flow.Flow.{Flow}
 use Rattle.flow_book.specs.declared.shown.Hidden.{Hidden}
 use Rattle.flow_book.specs.Flows.{LiveFlow}
@@ -35,7 +35,7 @@ few-behind : (c : Config) (n : ℕ) (items : List Flow) → AllByRecursion (λ (
     → Ascend (map live items) → AllByRecursion (KeepsSums c) items → n < 2 ^ 16 → n + length items < 2 ^ 16
 few-behind c n [] above up all lt = omega (arith, lt)
 few-behind c n (f ∷ items) above up all lt =
-    let small = sid-small (rank_of f.spec) (last_start f.grants.items) f.sid f.turn all.0.turn.1 in
+    let small = sid-small (top_rank f.spec) (last_start f.grants.items) f.sid f.turn all.0.turn.1 in
     omega (arith, above.0, few-behind c f.sid items up.0 up.1 all.1 small)
 
 -- there are no more flows than SIDs
@@ -43,7 +43,7 @@ pub few-flows : (c : Config) (items : List Flow) → Ascend (map live items) →
     → length items ≤ 2 ^ 16
 few-flows c [] up all = omega arith
 few-flows c (f ∷ items) up all =
-    let small = sid-small (rank_of f.spec) (last_start f.grants.items) f.sid f.turn all.0.turn.1 in
+    let small = sid-small (top_rank f.spec) (last_start f.grants.items) f.sid f.turn all.0.turn.1 in
     omega (arith, few-behind c f.sid items up.0 up.1 all.1 small)
 
 apart : (a b s t : ℕ) → s < t → t < 2 ^ 16 → number_of a s ≡ number_of b t → ⊥
@@ -143,7 +143,7 @@ both-first false b both = both
 pub small-of : (c : Config) (items : List Flow) → AllByRecursion (KeepsSums c) items → AreSmall (map live items)
 small-of c [] sums = tt
 small-of c (f ∷ items) sums =
-    (sid-small (rank_of f.spec) (last_start f.grants.items) f.sid f.turn sums.0.turn.1, small-of c items sums.1)
+    (sid-small (top_rank f.spec) (last_start f.grants.items) f.sid f.turn sums.0.turn.1, small-of c items sums.1)
 
 least-of-all : (p : ℕ) (ms : List ℕ) → least_with p ms ≤ p
 least-of-all p [] = omega arith

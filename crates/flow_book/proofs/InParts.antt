@@ -1,34 +1,37 @@
 -- The two parts of the queue while a MAP is planned.
 use Rattle.std.proofs.Common.{◌≡◌, ◌≢◌, refl, sym, ap, ◌∙◌, subst, ℕ, zero, suc, ◌<◌, ◌≤◌, inl, inr, Bool, true, false}
-use Rattle.std.proofs.Common.{List, [], ◌∷◌, filter, take, drop, get_or, set, remove, slice_get, Option, Some, None, option_map}
-use Rattle.std.proofs.Common.{◌+◌, map, length, arith}
+use Rattle.std.proofs.Common.{List, [], ◌∷◌, filter, take, drop, get_or, set, remove, slice_get, Option, Some, None, cond}
+use Rattle.std.proofs.Common.{◌+◌, map, length, nat_lt, arith}
 use Rattle.std.specs.List.{AllByRecursion}
 use Rattle.std.specs.Option.{MatchOption}
 use Rattle.std.proofs.lemmas.Bool.{cases_eq}
+use Rattle.std.proofs.lemmas.Bool.Decides.{nat_tests}
 use Rattle.std.proofs.lemmas.List.Edits.{length-remove}
 use Rattle.std.proofs.lemmas.Option.{slice_get_within, get_or_from_slice_get}
 use Rattle.std.proofs.lemmas.List.{drop_all}
 use Rattle.minislots.specs.declared.config.Config.{Config}
 use Rattle.flow_book.specs.declared.flow.Flow.{Flow}
-use Rattle.flow_book.specs.declared.queue.Waiting.{Waiting}
+use Rattle.flow_book.specs.declared.waiting.Waiting.{Waiting}
 use Rattle.flow_book.specs.declared.parts.Standing.TheVariants.{Queued, Served}
 use Rattle.flow_book.specs.Choice.{NoneEligible}
 use Rattle.flow_book.specs.Entry.{live}
-use Rattle.flow_book.specs.Queue.{IsAt, IsIn, IsQueue, IsQueueAmong, IsQueueIn, IsPassed, IsNoEarlier, HasStartedPart}
-use Rattle.flow_book.specs.Queue.{IsFirstAble, IsOrderIn, IsShortQueue, StandsBehind, AreOnce, served_of}
+use Rattle.flow_book.specs.Queue.{IsAt, IsIn, IsQueue, IsQueueAmong, IsQueueIn, IsPassed, IsNoSooner, HasStartedPart}
+use Rattle.flow_book.specs.Queue.{IsSoonest, IsOrderIn, IsShortQueue, StandsBehind, AreOnce, served_of}
 use Rattle.flow_book.specs.Queue.{NoneWaitsBefore}
 use Rattle.flow_book.specs.Queue.{still_waits}
-use Rattle.flow_book.specs.Tiers.{HasTier}
+use Rattle.flow_book.specs.Tiers.{HasTier, turn_at}
+use Rattle.flow_book.specs.declared.soonest.Able.{Able}
+use Rattle.flow_book.specs.declared.parts.Standing.{Standing}
 use Rattle.flow_book.specs.declared.tiers.Tier.{Tier}
-use Rattle.flow_book.specs.Parts.{HasStartedIn, IsAheadOf, IsNextIn, IsPutIn, IsPutBack}
+use Rattle.flow_book.specs.Parts.{one_at, sooner_of, HasStartedIn, IsAheadOf, IsNextIn, IsPutIn, IsPutBack}
 use Rattle.flow_book.proofs.Once.{by-turn-once, once-remove, once-alone}
 use Rattle.flow_book.proofs.Order.{all-implied}
 use Rattle.flow_book.proofs.Queues.{with-one, all-remove, in-rest, in-removed, taken-among, taken-out, among-as}
 use Rattle.sched_calls.proofs.Removal.{all-filter, ascends-filter}
-use Rattle.flow_book.proofs.Serving.{pick, kept-of, first-next, none-next}
+use Rattle.flow_book.proofs.Serving.{pick, kept-of, first-next, none-next, all-later, all-sooner, no-sooner}
 use Rattle.flow_book.proofs.StillWaiting.{all-at, kept-at, kept-index, gone-kept, kept-parts, all-parts, ascends-take}
 use Rattle.flow_book.proofs.StillWaiting.{none-served, still-queue}
-use Rattle.flow_book.proofs.StillWaiting.{in-take, later-behind}
+use Rattle.flow_book.proofs.StillWaiting.{in-take}
 
 -- the one at a place of a list is in it
 pub in-at : (queue : List Waiting) (i : ℕ) (w : Waiting) → slice_get queue i ≡ Some w → IsIn w.place queue
@@ -139,12 +142,6 @@ module _ (items : List Flow) (queue served : List Waiting) (is : IsQueueIn items
         is = put;
       }
 
--- none is ahead where none were served
-ahead-none : (queue served : List Waiting) (queued : Option ℕ) → length served ≡ 0 → IsAheadOf queue served 0 queued
-ahead-none queue [] None none = refl
-ahead-none queue [] (Some index) none = λ w here. (tt, tt)
-ahead-none queue (v ∷ served) queued none = absurd (omega (arith, none))
-
 -- one of a short queue is put among the others
 pub put-back : (items : List Flow) (queue : List Waiting) (i : ℕ) (w waiting : Waiting) (after : List Waiting)
     → IsShortQueue items queue → slice_get queue i ≡ Some w → still_waits w ≡ true → w.place ≡ waiting.place
@@ -224,87 +221,140 @@ module _ (c : Config) (items : List Flow) (tiers : List Tier) (queue served : Li
     started = has.started;
   }
 
-  later-still : (turn more : ℕ) (v : Waiting) → turn ≤ more → IsNoEarlier c start room items more v
-      → IsNoEarlier c start room items turn v
-  later-still turn more v le (inl passed) = inl passed
-  later-still turn more v le (inr late) = inr (omega (arith, le, late))
+  -- of those that still wait in the two parts each has a turn no earlier than its own
+  queue-later : AllByRecursion (λ v. v.turn ≤ turn_at c tiers start v) (filter still_waits queue)
+  queue-later =
+      all-later c items tiers start (filter still_waits queue) has.book has.started has.order.others.each has.others
 
-  queue-late : (ahead i : ℕ) (w : Waiting) (queued : Option ℕ) → slice_get (take ahead served) i ≡ Some w
-      → MatchOption queued (AllByRecursion (IsPassed c start room items) (filter still_waits queue))
-      (IsFirstAble c items queue start room)
-      → IsAheadOf queue served ahead queued
-      → AllByRecursion (IsNoEarlier c start room items w.turn) (filter still_waits queue)
-  queue-late ahead i w None here passed all =
-      all-implied (IsPassed c start room items) (IsNoEarlier c start room items w.turn) (filter still_waits queue)
-      (λ v pass. inl pass) passed
-  queue-late ahead i w (Some index) here first around =
-      let low : w.turn ≤ first.waiting.turn =
-      all-at (λ v. v.turn ≤ first.waiting.turn) (take ahead served) i w (around first.waiting first.here).0 here in
-      all-implied (IsNoEarlier c start room items first.waiting.turn) (IsNoEarlier c start room items w.turn)
-      (filter still_waits queue) (λ v late. later-still w.turn first.waiting.turn v low late) first.first
+  served-later : AllByRecursion (λ v. v.turn ≤ turn_at c tiers start v) served
+  served-later = all-later c items tiers start served has.book has.started has.order.served_ones.each has.ones
 
-  -- one of those served before the first of the queue is next where it is the first of them
-  pub again-next : (ahead i : ℕ) (queued : Option ℕ)
-      → MatchOption queued (AllByRecursion (IsPassed c start room items) (filter still_waits queue))
-      (IsFirstAble c items queue start room)
-      → IsAheadOf queue served ahead queued → IsFirstAble c items (take ahead served) start room i
-      → IsNextIn c items queue served start room (Served i)
-  again-next ahead i queued found around first =
-      let w = first.waiting in
-      let here : slice_get served i ≡ Some w = in-take ahead served i w first.here in
-      let at = all-at (IsAt items) served i w has.order.served_ones.each here in
-      let late = queue-late ahead i w queued first.here found around in
-      let behind = later-behind (λ (v : Waiting). v.turn) ahead served i w first.here has.order.served_ones.ascending in
-      let late' = kept-parts (IsNoEarlier c start room items w.turn) still_waits ahead served first.first
-      (all-implied (λ v. w.turn < v.turn) (IsNoEarlier c start room items w.turn) (drop ahead served)
-      (λ v lt. inr (omega (arith, lt))) behind) in
+  -- one that may be served and stands here is next where none of both parts is sooner
+  stands-next : (at : Standing) (among ws : List Waiting) (index turn : ℕ)
+      → (is : IsSoonest c items tiers among ws start room index turn) → one_at at queue served ≡ Some is.able.waiting
+      → AllByRecursion (IsNoSooner c tiers start room items turn) (filter still_waits queue)
+      → AllByRecursion (IsNoSooner c tiers start room items turn) (filter still_waits served)
+      → IsNextIn c items queue served start room at
+  stands-next at among ws index turn is here all all' =
+      let w = is.able.waiting in
+      let two = known-at at w here is.able.waits in
       record {
         waiting = w;
         here = here;
-        waits = first.waits;
-        flow = first.flow;
-        stands = first.at;
-        next = first-next c start room items has.book queue served has.order w first.flow first.at at first.may late
-            late';
+        waits = is.able.waits;
+        flow = is.able.flow;
+        stands = is.able.at;
+        next = first-next c start room items tiers queue served has w is.able.flow is.able.at two.0 two.1 is.able.may
+            (rw (sym is.is) all) (rw (sym is.is) all');
       }
+    where
+      known-at : (at : Standing) (w : Waiting) → one_at at queue served ≡ Some w → still_waits w ≡ true
+          → IsAt items w × HasTier items tiers w
+      known-at (Queued i) w here still = (
+        kept-of (IsAt items) queue i w here still has.order.others.each,
+        kept-of (HasTier items tiers) queue i w here still has.others,
+      )
+      known-at (Served i) w here still = (
+        all-at (IsAt items) served i w has.order.served_ones.each here,
+        all-at (HasTier items tiers) served i w has.ones here,
+      )
 
-  -- and where none of these may be served the first of the queue is, or none
-  pub queued-next : (ahead : ℕ) (queued : Option ℕ)
-      → MatchOption queued (AllByRecursion (IsPassed c start room items) (filter still_waits queue))
-      (IsFirstAble c items queue start room)
-      → IsAheadOf queue served ahead queued
-      → AllByRecursion (IsPassed c start room items) (filter still_waits (take ahead served))
-      → MatchOption (option_map Queued queued) (NoneEligible c (map live items) start room)
-      (IsNextIn c items queue served start room)
-  queued-next ahead None passed all passed' =
-      let none : AllByRecursion (IsPassed c start room items) (drop ahead served) =
-      subst (λ ws. AllByRecursion (IsPassed c start room items) ws) (sym (drop_all ahead served (omega
-      (arith, all)))) tt in
-      none-next c start room items has.book queue served has.order passed
-      (kept-parts (IsPassed c start room items) still_waits ahead served passed' none)
-  queued-next ahead (Some i) first around passed' =
-      let w = first.waiting in
-      let P = IsNoEarlier c start room items w.turn in
-      let at = kept-of (IsAt items) queue i w first.here first.waits has.order.others.each in
-      let late' = kept-parts P still_waits ahead served
-      (all-implied (IsPassed c start room items) P (filter still_waits (take ahead served))
-      (λ v pass. inl pass) passed')
-      (all-implied (λ v. w.turn ≤ v.turn) P (drop ahead served) (λ v le. inr le) (around w first.here).1) in
-      record {
-        waiting = w;
-        here = first.here;
-        waits = first.waits;
-        flow = first.flow;
-        stands = first.at;
-        next = first-next c start room items has.book queue served has.order w first.flow first.at at first.may
-            first.first
-            late';
-      }
+  abbrev Found : List Waiting → Option Able → Type 0
+  Found ws queued =
+      MatchOption queued (AllByRecursion (IsPassed c start room items) (filter still_waits ws))
+      (λ able. IsSoonest c items tiers ws ws start room able.index able.turn)
 
-  -- and so where none were served
-  pub alone-next : (queued : Option ℕ) → length served ≡ 0
-      → MatchOption queued (AllByRecursion (IsPassed c start room items) (filter still_waits queue))
-      (IsFirstAble c items queue start room)
-      → MatchOption (option_map Queued queued) (NoneEligible c (map live items) start room)
+  -- where none of some may be served none is sooner than any turn
+  passed-late : (turn : ℕ) (ws : List Waiting) → AllByRecursion (IsPassed c start room items) ws
+      → AllByRecursion (IsNoSooner c tiers start room items turn) ws
+  passed-late turn ws =
+      all-implied (IsPassed c start room items) (IsNoSooner c tiers start room items turn) ws (λ v pass. inl pass)
+
+  -- those served from a place on are no sooner than a turn that is no later than theirs
+  served-late : (turn ahead : ℕ) → AllByRecursion (IsNoSooner c tiers start room items turn)
+      (filter still_waits (take ahead served)) → AllByRecursion (λ v. turn ≤ v.turn) (drop ahead served)
+      → AllByRecursion (IsNoSooner c tiers start room items turn) (filter still_waits served)
+  served-late turn ahead front behind =
+      kept-parts (IsNoSooner c tiers start room items turn) still_waits ahead served front
+      (no-sooner c start room items tiers turn (drop ahead served) behind
+      (all-parts (λ v. v.turn ≤ turn_at c tiers start v) ahead served served-later).1)
+
+  -- the one of the queue is next where none of those served that come ahead is sooner
+  queued-is : (ahead : ℕ) (a : Able) → IsSoonest c items tiers queue queue start room a.index a.turn
+      → AllByRecursion (λ v. a.turn ≤ v.turn) (drop ahead served)
+      → AllByRecursion (IsNoSooner c tiers start room items a.turn) (filter still_waits (take ahead served))
+      → IsNextIn c items queue served start room (Queued a.index)
+  queued-is ahead a is around front =
+      stands-next (Queued a.index) queue queue a.index a.turn is is.able.here is.first
+      (served-late a.turn ahead front around)
+
+  -- and one of these where none of the queue is sooner
+  served-is : (ahead : ℕ) (p : Able)
+      → IsSoonest c items tiers (take ahead served) (take ahead served) start room p.index p.turn
+      → AllByRecursion (IsNoSooner c tiers start room items p.turn) (filter still_waits queue)
+      → AllByRecursion (λ v. p.turn ≤ v.turn) (drop ahead served)
+      → IsNextIn c items queue served start room (Served p.index)
+  served-is ahead p is all behind =
+      stands-next (Served p.index) (take ahead served) (take ahead served) p.index p.turn is
+      (in-take ahead served p.index is.able.waiting is.able.here) all (served-late p.turn ahead is.first behind)
+
+  none-behind : (ahead turn : ℕ) → ahead ≡ length served → AllByRecursion (λ v. turn ≤ v.turn) (drop ahead served)
+  none-behind ahead turn all =
+      subst (λ ws. AllByRecursion (λ v. turn ≤ v.turn) ws) (sym (drop_all ahead served (omega (arith, all)))) tt
+
+  -- the sooner of both is next
+  sooner-by : (ahead : ℕ) (a p : Able) (b : Bool) → nat_lt a.turn p.turn ≡ b
+      → IsSoonest c items tiers queue queue start room a.index a.turn
+      → AllByRecursion (λ v. a.turn ≤ v.turn) (drop ahead served)
+      → IsSoonest c items tiers (take ahead served) (take ahead served) start room p.index p.turn
+      → IsNextIn c items queue served start room (cond b (Queued a.index) (Served p.index))
+  sooner-by ahead a p true less is around is' =
+      let le : a.turn ≤ p.turn = grind (arith, nat_tests) in
+      queued-is ahead a is around
+      (all-sooner c start room items tiers a.turn p.turn (filter still_waits (take ahead served)) le is'.first)
+  sooner-by ahead a p false more is around is' =
+      let le : p.turn ≤ a.turn = grind (arith, nat_tests) in
+      served-is ahead p is' (all-sooner c start room items tiers p.turn a.turn (filter still_waits queue) le is.first)
+      (all-implied (λ v. a.turn ≤ v.turn) (λ v. p.turn ≤ v.turn) (drop ahead served) (λ v lt. omega (arith, lt, le))
+      around)
+
+  cond-some : (b : Bool) (x y : Standing) → cond b (Some x) (Some y) ≡ Some (cond b x y)
+  cond-some true x y = refl
+  cond-some false x y = refl
+
+  -- of what was found of the queue, and of those served that come ahead of that
+  pub sooner-next : (ahead : ℕ) (queued passed : Option Able) → Found queue queued → IsAheadOf served ahead queued
+      → Found (take ahead served) passed
+      → MatchOption (sooner_of queued passed) (NoneEligible c (map live items) start room)
       (IsNextIn c items queue served start room)
-  alone-next queued none found = queued-next 0 queued found (ahead-none queue served queued none) tt
+  sooner-next ahead None None found all found' =
+      none-next c start room items tiers queue served has found
+      (kept-parts (IsPassed c start room items) still_waits ahead served found'
+      (subst (λ ws. AllByRecursion (IsPassed c start room items) ws) (sym (drop_all ahead served (omega
+      (arith, all)))) tt))
+  sooner-next ahead (Some a) None found around found' =
+      queued-is ahead a found around (passed-late a.turn (filter still_waits (take ahead served)) found')
+  sooner-next ahead None (Some p) found all found' =
+      served-is ahead p found' (passed-late p.turn (filter still_waits queue) found) (none-behind ahead p.turn all)
+  sooner-next ahead (Some a) (Some p) found around found' =
+      subst (λ o. MatchOption o (NoneEligible c (map live items) start room) (IsNextIn c items queue served start room))
+      (sym (cond-some (nat_lt a.turn p.turn) (Queued a.index) (Served p.index)))
+      (sooner-by ahead a p (nat_lt a.turn p.turn) refl found around found')
+
+  -- where none were served what was found of the queue is next
+  pub alone-next : (queued : Option Able) → length served ≡ 0 → Found queue queued
+      → MatchOption (sooner_of queued None) (NoneEligible c (map live items) start room)
+      (IsNextIn c items queue served start room)
+  alone-next queued none found =
+      sooner-next 0 queued None found (ahead-none queued served none) tt
+    where
+      ahead-none : (queued : Option Able) (ws : List Waiting) → length ws ≡ 0 → IsAheadOf ws 0 queued
+      ahead-none None [] none = refl
+      ahead-none (Some a) [] none = tt
+      ahead-none queued (v ∷ ws) none = absurd (omega (arith, none))
+
+  -- where none was served it is the soonest of the queue, at its place
+  pub next-alone : (index : ℕ) → length served ≡ 0
+      → (turn : ℕ) × IsSoonest c items tiers queue queue start room index turn
+      → IsNextIn c items queue served start room (Queued index)
+  next-alone index none found = alone-next (Some (record { index = index; turn = found.0 })) none found.1

@@ -10,8 +10,8 @@ use Rattle.std.proofs.lemmas.List.Elements.{filter-append}
 use Rattle.std.proofs.lemmas.Option.{slice_get_read}
 use Rattle.minislots.specs.declared.config.Config.{Config}
 use Rattle.flow_book.specs.declared.flow.Flow.{Flow}
-use Rattle.flow_book.specs.declared.queue.Waiting.{Waiting}
-use Rattle.sched_calls.specs.FlowSpec.{rank_of}
+use Rattle.flow_book.specs.declared.waiting.Waiting.{Waiting}
+use Rattle.flow_book.specs.Entry.{top_rank}
 use Rattle.flow_book.specs.Choice.{last_start}
 use Rattle.flow_book.specs.Entry.{IsBook, IsTurn}
 use Rattle.sched_calls.specs.Sids.{AscendBy}
@@ -131,7 +131,7 @@ none-behind c items are front (w ∷ back) all high =
       arith,
       high.0,
       turn-at items w f.0 at f.1,
-      turn-low (rank_of f.0.spec) (last_start f.0.grants.items) f.0.sid f.0.turn knows.1,
+      turn-low (top_rank f.0.spec) (last_start f.0.grants.items) f.0.sid f.0.turn knows.1,
     ))
 
 module _ (c : Config) (items : List Flow) (are : IsBook c items) where

@@ -3,7 +3,8 @@ use Rattle.std.proofs.Common.{◌≡◌, ap, ℕ, List, map, set, get_or, slice_
 use Rattle.std.specs.Option.{IsSomeAnd}
 use Rattle.minislots.specs.declared.config.Config.{Config}
 use Rattle.flow_book.specs.declared.flow.Flow.{Flow}
-use Rattle.flow_book.specs.Flows.{LiveFlow, with_grant}
+use Rattle.flow_book.specs.Flows.{LiveFlow}
+use Rattle.flow_book.specs.Reserved.{with_grant}
 use Rattle.flow_book.specs.Choice.{IsAmount, IsNext}
 use Rattle.flow_book.specs.Entry.{live, KeepsSums, IsBook}
 use Rattle.flow_book.specs.Book.{Ascend}
@@ -27,7 +28,7 @@ module _ (c : Config) (items : List Flow) (start room i : ℕ) (f : Flow) where
 
   -- with a grant of its amount it is in its place of the book
   pub served-book : (bytes : ℕ) (e : Flow) → IsBook c items → IsFound c items start room i f
-      → live e ≡ with_grant (record { start = start; bytes = bytes }) (live f)
+      → live e ≡ with_grant c (record { start = start; bytes = bytes }) (live f)
       → IsAmount c (live f) start room bytes → KeepsSums c e → IsBook c (set items i e)
   served-book bytes e are is more amount keeps =
       let sound = placed-is_sound c f.sid items i f are.sound is.stands in

@@ -7,19 +7,21 @@ use Rattle.std.proofs.lemmas.List.{take_all, take_more, take_more_set, length_pu
 use Rattle.std.proofs.lemmas.List.Elements.{All-from_recursion}
 use Rattle.std.proofs.lemmas.Option.{slice_get_past}
 use Rattle.flow_book.specs.declared.flow.Flow.{Flow}
-use Rattle.flow_book.specs.declared.queue.Waiting.{Waiting}
+use Rattle.flow_book.specs.declared.waiting.Waiting.{Waiting}
 use Rattle.flow_book.specs.declared.tiers.Tier.{Tier}
 use Rattle.flow_book.specs.declared.tiers.TheConstants.{NO_TIER}
 use Rattle.flow_book.specs.Queue.{IsAt, IsIn, IsQueue}
 use Rattle.flow_book.specs.Tiers.{HasTier, IsRenumbered}
 use Rattle.sched_calls.specs.Sids.{AscendBy}
+use Rattle.flow_book.specs.Entry.{is_plain}
+use Rattle.flow_book.proofs.ByTier.{told}
 use Rattle.flow_book.proofs.Queues.{tier-at}
 use Rattle.flow_book.proofs.StillWaiting.{all-joined}
 
 -- one that has a number has the tier of the flow at its place
 abbrev HasNumber : List Flow → List Tier → Waiting → Type 0
 HasNumber items tiers w = w.tier ≢ NO_TIER → (f : Flow) → slice_get items w.place ≡ Some f
-    → slice_get tiers w.tier ≡ Some (record { place = w.place; peak = f.limits.peak })
+    → slice_get tiers w.tier ≡ Some (told w.place f)
 
 module _ {X : Type 0} where
   -- what is there stays where one more is behind it
@@ -100,7 +102,7 @@ module _ (items : List Flow) where
   number-more : (tiers : List Tier) (t : Tier) (w : Waiting) → HasNumber items tiers w
       → HasNumber items (tiers ++ t ∷ []) w
   number-more tiers t w has = λ some f at.
-      slice-push tiers w.tier (record { place = w.place; peak = f.limits.peak }) t (has some f at)
+      slice-push tiers w.tier (told w.place f) t (has some f at)
 
   all-more : (tiers : List Tier) (t : Tier) (ws : List Waiting) → AllByRecursion (HasNumber items tiers) ws
       → AllByRecursion (HasNumber items (tiers ++ t ∷ [])) ws
@@ -108,18 +110,14 @@ module _ (items : List Flow) where
   all-more tiers t (w ∷ ws) all = (number-more tiers t w all.0, all-more tiers t ws all.1)
 
   -- and it is that of the one with its number
-  number-last : (tiers : List Tier) (t : Tier) (w : Waiting) → w.tier ≡ length tiers → t.place ≡ w.place
-      → ((f : Flow) → slice_get items w.place ≡ Some f → t.peak ≡ f.limits.peak)
-      → HasNumber items (tiers ++ t ∷ []) w
-  number-last tiers t w last place peak = λ some f at.
-      let u : Tier = record { place = w.place; peak = f.limits.peak } in
-      let same : t ≡ u =
-      ap (λ k. record { place = k; peak = t.peak }) place ∙ ap (λ b. record { place = w.place; peak = b }) (peak f at) in
-      ap (slice_get (tiers ++ t ∷ [])) last ∙ slice-last tiers t ∙ ap Some same
+  number-last : (tiers : List Tier) (t : Tier) (w : Waiting) → w.tier ≡ length tiers
+      → ((f : Flow) → slice_get items w.place ≡ Some f → t ≡ told w.place f) → HasNumber items (tiers ++ t ∷ []) w
+  number-last tiers t w last is = λ some f at.
+      ap (slice_get (tiers ++ t ∷ [])) last ∙ slice-last tiers t ∙ ap Some (is f at)
 
   tier-by : (tiers : List Tier) (w : Waiting) (f : Flow) (b : Bool) → (w.tier == NO_TIER) ≡ b → length tiers ≤ NO_TIER
       → HasNumber items tiers w → slice_get items w.place ≡ Some f
-      → slice_get tiers w.tier ≡ cond b None (Some (record { place = w.place; peak = f.limits.peak }))
+      → slice_get tiers w.tier ≡ cond b None (Some (told w.place f))
   tier-by tiers w f true none few has at =
       let is : w.tier ≡ NO_TIER = grind (arith, nat_tests) in
       slice_get_past tiers w.tier (omega (arith, is, few))
@@ -132,7 +130,7 @@ module _ (items : List Flow) where
       → AllByRecursion (HasNumber items tiers) ws → AllByRecursion (HasTier items tiers) ws
   tiers-numbered tiers [] few at all = tt
   tiers-numbered tiers (w ∷ ws) few at all = (
-    (λ f found. tier-by tiers w f (f.limits.peak.per_slot == 0) (sym (tier-at items w f at.0 found)) few all.0 found),
+    (λ f found. tier-by tiers w f (is_plain f) (sym (tier-at items w f at.0 found)) few all.0 found),
     tiers-numbered tiers ws few at.1 all.1,
   )
 
@@ -164,10 +162,10 @@ module _ (items : List Flow) (old queue : List Waiting) (tiers : List Tier) (i :
   }
 
   -- and another gets the number of the tier that is pushed
-  pub numbered-more : (w.tier ≢ NO_TIER) → (n : ℕ) → n ≡ length tiers → n < NO_TIER → (t : Tier) → t.place ≡ w.place
-      → ((f : Flow) → slice_get items w.place ≡ Some f → t.peak ≡ f.limits.peak)
+  pub numbered-more : (w.tier ≢ NO_TIER) → (n : ℕ) → n ≡ length tiers → n < NO_TIER → (t : Tier)
+      → ((f : Flow) → slice_get items w.place ≡ Some f → t ≡ told w.place f)
       → IsNumbered items old (set queue i (record w { tier = n })) (tiers ++ t ∷ []) (i + 1)
-  numbered-more some n last low t place peak =
+  numbered-more some n last low t is-told =
       let new = record w { tier = n } in
       let P = HasNumber items (tiers ++ t ∷ []) in
       let fails : (w.tier == NO_TIER) ≡ false = grind (arith, nat_tests) in
@@ -177,7 +175,7 @@ module _ (items : List Flow) (old queue : List Waiting) (tiers : List Tier) (i :
         few = omega (arith, length_push tiers t, last, low);
         tiered = subst (AllByRecursion P) (sym (take_more_set queue i new lt))
             (all-joined P (take i queue) (new ∷ []) (all-more items tiers t (take i queue) is.tiered)
-            (number-last items tiers t new last place peak, tt));
+            (number-last items tiers t new last is-told, tt));
       }
 
 -- at the end all have theirs

@@ -4,7 +4,7 @@ use Rattle.std.proofs.Common.{length, get_or, take, insert, remove, arith}
 use Rattle.std.specs.List.{AllByRecursion}
 use Rattle.std.proofs.lemmas.List.Elements.{All-from_recursion}
 use Rattle.flow_book.specs.declared.flow.Flow.{Flow}
-use Rattle.flow_book.specs.declared.queue.Waiting.{Waiting}
+use Rattle.flow_book.specs.declared.waiting.Waiting.{Waiting}
 use Rattle.flow_book.specs.Queue.{IsAt, IsIn, AreOnce}
 use Rattle.sched_calls.specs.Sids.{AscendBy}
 use Rattle.flow_book.proofs.Queues.{all-both, all-remove, same-turn}

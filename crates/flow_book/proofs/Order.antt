@@ -5,7 +5,7 @@ use Rattle.std.specs.List.{AllByRecursion}
 use Rattle.std.proofs.lemmas.Bool.Decides.{nat_tests}
 use Rattle.std.proofs.lemmas.List.Elements.{All-from_recursion, Contains-append_left, Contains-push}
 use Rattle.minislots.specs.declared.config.Config.{Config}
-use Rattle.sched_calls.specs.FlowSpec.{rank_of}
+use Rattle.flow_book.specs.Reserved.{rank_at}
 use Rattle.flow_book.specs.Flows.{LiveFlow}
 use Rattle.flow_book.specs.Choice.{last_start, is_earlier, is_as_early, is_before, IsEligible, IsNextOf}
 use Rattle.flow_book.specs.Book.{Ascend}
@@ -33,13 +33,15 @@ first-total r s None (Some m) x y differ fails = grind (arith, nat_tests)
 first-total r s (Some k) None x y differ fails = grind (arith, nat_tests)
 first-total r s (Some k) (Some m) x y differ fails = grind (arith, nat_tests)
 
-before-trans : (f g h : LiveFlow) → is_before f g ≡ true → is_before g h ≡ true → is_before f h ≡ true
-before-trans f g h p q = first-trans (rank_of f.spec) (rank_of g.spec) (rank_of h.spec) (last_start f.grants)
+before-trans : (c : Config) (start : ℕ) (f g h : LiveFlow) → is_before c start f g ≡ true → is_before c start g h ≡ true
+    → is_before c start f h ≡ true
+before-trans c start f g h p q = first-trans (rank_at c start f) (rank_at c start g) (rank_at c start h) (last_start f.grants)
     (last_start g.grants) (last_start h.grants) f.sid g.sid h.sid p q
 
-before-total : (f g : LiveFlow) → g.sid < f.sid → is_before f g ≡ false → is_before g f ≡ true
-before-total f g higher fails =
-    first-total (rank_of f.spec) (rank_of g.spec) (last_start f.grants) (last_start g.grants) f.sid g.sid higher fails
+before-total : (c : Config) (start : ℕ) (f g : LiveFlow) → g.sid < f.sid → is_before c start f g ≡ false
+    → is_before c start g f ≡ true
+before-total c start f g higher fails =
+    first-total (rank_at c start f) (rank_at c start g) (last_start f.grants) (last_start g.grants) f.sid g.sid higher fails
 
 -- what holds of each and of one more holds of each then
 pub all-push : {X : Type 0} (P : X → Type 0) (xs : List X) (x : X) → AllByRecursion P xs → P x
@@ -62,10 +64,11 @@ higher : (flows : List LiveFlow) (g f : LiveFlow) (more : List LiveFlow)
 higher [] g f more all = all.0
 higher (h ∷ flows) g f more all = higher flows g f more all.1
 
-follows : (n f g : LiveFlow) → is_before f n ≡ true → (g ≡ n) ⊎ (is_before n g ≡ true)
-    → (g ≡ f) ⊎ (is_before f g ≡ true)
-follows n f g before (inl same) = inr (subst (λ (h : LiveFlow). is_before f h ≡ true) (sym same) before)
-follows n f g before (inr after) = inr (before-trans f n g before after)
+follows : (c : Config) (start : ℕ) (n f g : LiveFlow) → is_before c start f n ≡ true
+    → (g ≡ n) ⊎ (is_before c start n g ≡ true) → (g ≡ f) ⊎ (is_before c start f g ≡ true)
+follows c start n f g before (inl same) =
+    inr (subst (λ (h : LiveFlow). is_before c start f h ≡ true) (sym same) before)
+follows c start n f g before (inr after) = inr (before-trans c start f n g before after)
 
 -- in order of SID all before one have lower SIDs
 pub lower-before : (flows : List LiveFlow) (f : LiveFlow) (more : List LiveFlow) → Ascend (flows ++ f ∷ more)
@@ -81,7 +84,7 @@ module _ (c : Config) (start room : ℕ) where
   next-passes flows (Some n) f is fails = record {
     live = Contains-append_left flows (f ∷ []) n is.live;
     eligible = is.eligible;
-    first = all-push (λ g. IsEligible c start room g → (g ≡ n) ⊎ (is_before n g ≡ true)) flows f is.first
+    first = all-push (λ g. IsEligible c start room g → (g ≡ n) ⊎ (is_before c start n g ≡ true)) flows f is.first
         (λ may. absurd (fails may));
   }
 
@@ -91,32 +94,32 @@ module _ (c : Config) (start room : ℕ) where
   next-first flows f is may = record {
     live = Contains-push flows f;
     eligible = may;
-    first = all-push (λ g. IsEligible c start room g → (g ≡ f) ⊎ (is_before f g ≡ true)) flows f
+    first = all-push (λ g. IsEligible c start room g → (g ≡ f) ⊎ (is_before c start f g ≡ true)) flows f
         (all-implied (λ g. IsEligible c start room g → ⊥) (λ g. IsEligible c start room g
-        → (g ≡ f) ⊎ (is_before f g ≡ true)) flows (λ g fails may'. absurd (fails may')) is) (λ same. inl refl);
+        → (g ≡ f) ⊎ (is_before c start f g ≡ true)) flows (λ g fails may'. absurd (fails may')) is) (λ same. inl refl);
   }
 
   -- one that goes before the next takes its place
   pub next-changes : (flows : List LiveFlow) (n f : LiveFlow) → IsNextOf c start room flows (Some n)
-      → IsEligible c start room f → is_before f n ≡ true → IsNextOf c start room (flows ++ f ∷ []) (Some f)
+      → IsEligible c start room f → is_before c start f n ≡ true → IsNextOf c start room (flows ++ f ∷ []) (Some f)
   next-changes flows n f is may before = record {
     live = Contains-push flows f;
     eligible = may;
-    first = all-push (λ g. IsEligible c start room g → (g ≡ f) ⊎ (is_before f g ≡ true)) flows f
-        (all-implied (λ g. IsEligible c start room g → (g ≡ n) ⊎ (is_before n g ≡ true)) (λ g. IsEligible c start room g
-        → (g ≡ f) ⊎ (is_before f g ≡ true)) flows
-        (λ g order may'. follows n f g before (order may')) is.first) (λ same. inl refl);
+    first = all-push (λ g. IsEligible c start room g → (g ≡ f) ⊎ (is_before c start f g ≡ true)) flows f
+        (all-implied (λ g. IsEligible c start room g → (g ≡ n) ⊎ (is_before c start n g ≡ true)) (λ g. IsEligible c start room g
+        → (g ≡ f) ⊎ (is_before c start f g ≡ true)) flows
+        (λ g order may'. follows c start n f g before (order may')) is.first) (λ same. inl refl);
   }
 
   -- one of a higher SID that does not comes after it
   pub next-stays : (flows : List LiveFlow) (n f : LiveFlow) → IsNextOf c start room flows (Some n)
-      → AllByRecursion (λ g. g.sid < f.sid) flows → is_before f n ≡ false
+      → AllByRecursion (λ g. g.sid < f.sid) flows → is_before c start f n ≡ false
       → IsNextOf c start room (flows ++ f ∷ []) (Some n)
   next-stays flows n f is lower fails =
       let higher_sid : n.sid < f.sid = all-contains (λ (g : LiveFlow). g.sid < f.sid) flows n lower is.live in
       record {
         live = Contains-append_left flows (f ∷ []) n is.live;
         eligible = is.eligible;
-        first = all-push (λ g. IsEligible c start room g → (g ≡ n) ⊎ (is_before n g ≡ true)) flows f is.first
-            (λ may. inr (before-total f n higher_sid fails));
+        first = all-push (λ g. IsEligible c start room g → (g ≡ n) ⊎ (is_before c start n g ≡ true)) flows f is.first
+            (λ may. inr (before-total c start f n higher_sid fails));
       }

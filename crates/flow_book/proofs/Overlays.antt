@@ -1,5 +1,5 @@
 -- An overlay as its book's flows are, and with one data grant more.
-use Rattle.std.proofs.Common.{◌≡◌, ◌≢◌, refl, sym, ap, ◌∙◌, subst, ℕ, ◌+◌, ◌≤◌, ◌==◌, ◌⊎◌, inl, inr, min, Option, Bool, false, cond, ◌<◌}
+use Rattle.std.proofs.Common.{◌≡◌, ◌≢◌, refl, sym, ap, ◌∙◌, subst, ℕ, ◌+◌, ◌≤◌, ◌==◌, ◌&&◌, ◌⊎◌, inl, inr, min, Option, Bool, false, cond, ◌<◌}
 use Rattle.std.proofs.Common.{List, [], ◌∷◌, ◌++◌}
 use Rattle.std.proofs.Common.{map, filter, true, set, get_or, slice_get, Some, option_map, arith}
 use Rattle.std.specs.List.{AllZip, AllByRecursion}
@@ -10,16 +10,16 @@ use Rattle.std.proofs.lemmas.Option.{slice_get-map, slice_get_within, get_or_fro
 use Rattle.minislots.specs.declared.config.Config.{Config}
 use Rattle.minislots.specs.Config.{IsLawful}
 use Rattle.minislots.specs.Units.{bytes_in}
-use Rattle.sched_calls.specs.FlowSpec.{rank_of}
 use Rattle.flow_book.specs.declared.flow.Flow.{Flow}
 use Rattle.flow_book.specs.declared.flow.Grant.{Grant}
-use Rattle.flow_book.specs.declared.queue.Waiting.{Waiting}
+use Rattle.flow_book.specs.declared.waiting.Waiting.{Waiting}
 use Rattle.flow_book.specs.declared.tiers.Tier.{Tier}
 use Rattle.flow_book.specs.declared.tiers.TheConstants.{NO_TIER}
-use Rattle.flow_book.specs.Flows.{LiveFlow, with_grant, outstanding}
-use Rattle.flow_book.specs.Limits.{HasBegunBy, AreLimitsOf, AreSettled, most_in}
+use Rattle.flow_book.specs.Flows.{LiveFlow, outstanding}
+use Rattle.flow_book.specs.Reserved.{wanted_of, is_under, with_grant}
+use Rattle.flow_book.specs.Limits.{HasBegunBy, AreLimitsOf, AreSettled, HaveOneMore, StaySettled, most_with}
 use Rattle.flow_book.specs.Choice.{last_start, IsAmount, HasStartedBy}
-use Rattle.flow_book.specs.Entry.{live, IsBook, IsTurn, KeepsSums}
+use Rattle.flow_book.specs.Entry.{live, is_plain, top_rank, IsBook, IsTurn, KeepsSums}
 use Rattle.flow_book.specs.Book.{changed}
 use Rattle.flow_book.specs.Queue.{entry_of, AreOnce, IsShortQueue, IsAt, IsIn, IsQueue, IsQueueAmong, IsQueueIn, IsOrderIn, served_of, HasRoom}
 use Rattle.flow_book.specs.Queue.{still_waits}
@@ -34,7 +34,7 @@ use Rattle.flow_book.proofs.Changes.{placed-changed}
 use Rattle.flow_book.proofs.InParts.{served-each, order-none}
 use Rattle.flow_book.proofs.NextServed.{IsFound, found-next, served-book}
 use Rattle.flow_book.proofs.Periods.{periods-more, limits-more, settled-more, begun-by}
-use Rattle.flow_book.proofs.PeakRates.{own-tier, other-tier}
+use Rattle.flow_book.proofs.ByTier.{own-tier, other-tier}
 use Rattle.flow_book.proofs.Queues.{with-one, in-new, in-old, in-one, among-as, among-same, among-others, same-but}
 use Rattle.flow_book.proofs.Queues.{all-both, stands-at, put-among, pass-among, set-here}
 use Rattle.sched_calls.proofs.Insertion.{all-put_in}
@@ -109,18 +109,20 @@ can-be-taken c before flows is_long queue served tiers capacity first old o book
   rest = rw (is, o.shows) o.rest;
 }
 
-same-grown : (f g : LiveFlow) (grant : Grant) → IsSameFlow f g → IsSameFlow f (with_grant grant g)
-same-grown f g grant same = ap (λ (h : LiveFlow). record h { grants = g.grants ++ grant ∷ [] }) same
+same-grown : (c : Config) (f g : LiveFlow) (grant : Grant) → IsSameFlow f g → IsSameFlow f (with_grant c grant g)
+same-grown c f g grant same =
+    ap (λ (h : LiveFlow). record h { grants = (with_grant c grant g).grants; reserved = (with_grant c grant g).reserved })
+    same
 
 -- flows are the same but for their grants where one has a grant more
-pub same-changed : (sid : ℕ) (grant : Grant) (before flows : List LiveFlow) → AllZip IsSameFlow before flows
-    → AllZip IsSameFlow before (changed sid (with_grant grant) flows)
-same-changed sid grant [] [] all = tt
-same-changed sid grant [] (g ∷ flows) all = absurd all
-same-changed sid grant (f ∷ before) [] all = absurd all
-same-changed sid grant (f ∷ before) (g ∷ flows) all = (
-  cond_both (g.sid == sid) (with_grant grant g) g (IsSameFlow f) (λ yes'. same-grown f g grant all.0) (λ no'. all.0),
-  same-changed sid grant before flows all.1,
+pub same-changed : (c : Config) (sid : ℕ) (grant : Grant) (before flows : List LiveFlow) → AllZip IsSameFlow before flows
+    → AllZip IsSameFlow before (changed sid (with_grant c grant) flows)
+same-changed c sid grant [] [] all = tt
+same-changed c sid grant [] (g ∷ flows) all = absurd all
+same-changed c sid grant (f ∷ before) [] all = absurd all
+same-changed c sid grant (f ∷ before) (g ∷ flows) all = (
+  cond_both (g.sid == sid) (with_grant c grant g) g (IsSameFlow f) (λ yes'. same-grown c f g grant all.0) (λ no'. all.0),
+  same-changed c sid grant before flows all.1,
 )
 
 -- one of the two parts has a flow
@@ -167,15 +169,16 @@ module _ (c : Config) (items : List Flow) (tiers : List Tier) (queue served : Li
   pub next-begun : HasBegunBy start (limits_in tiers w)
   next-begun =
       rw (sym next-stands.limits)
-      (begun-by c (live next-stands.flow) next-stands.flow.limits start next-stands.keeps.limits next-stands.started)
+      (begun-by c (live next-stands.flow) next-stands.flow.limits start next-stands.keeps.limits next-stands.keeps.periods
+      next-stands.started)
 
   -- and its turn after a grant is no earlier
   pub next-later : (n : ℕ) → ((rank : ℕ) (last : Option ℕ) (sid : ℕ) → IsTurn rank last sid w.turn
       → IfSome last (λ m. m ≤ start) → w.turn ≤ n) → w.turn ≤ n
   next-later n later =
       let f = next-stands.flow in
-      later (rank_of f.spec) (last_start f.grants.items) f.sid
-      (subst (IsTurn (rank_of f.spec) (last_start f.grants.items) f.sid) next-stands.turn next-stands.keeps.turn.1)
+      later (top_rank f.spec) (last_start f.grants.items) f.sid
+      (subst (IsTurn (top_rank f.spec) (last_start f.grants.items) f.sid) next-stands.turn next-stands.keeps.turn.1)
       (last-started start f.grants.items next-stands.started)
 
 -- the flow that is next, the flows with its grant, and their queue
@@ -184,9 +187,9 @@ pub record IsServed (c : Config) (items : List Flow) (is_long : Bool) (after : L
   pub flow : Flow
   pub found : IsFound c items start room w.place flow
   pub amount : IsAmount c (live flow) start room bytes
-  pub turn : IsTurn (rank_of flow.spec) (Some start) flow.sid new.turn
+  pub turn : IsTurn (top_rank flow.spec) (Some start) flow.sid new.turn
   pub grown : List Flow
-  pub shows : map live grown ≡ changed flow.sid (with_grant (record { start = start; bytes = bytes })) (map live items)
+  pub shows : map live grown ≡ changed flow.sid (with_grant c (record { start = start; bytes = bytes })) (map live items)
   pub book : IsBook c grown
   pub order : IsOrderIn is_long grown queue_after served_after
   pub tiered : HaveTiers is_long grown after queue_after served_after
@@ -198,7 +201,7 @@ module _ (c : Config) (items : List Flow) (tiers after : List Tier) (queue serve
     (start room sid bytes more : ℕ) (at : Standing) (w new : Waiting) (lawful : IsLawful c)
     (has : HasStartedIn c items tiers queue served start) (here : one_at at queue served ≡ Some w)
     (first : IsNextIn c items queue served start room at) (cap : more ≡ min (bytes_in c room) c.grant_cap)
-    (granted : IsGranted tiers after w new start more sid bytes) where
+    (granted : IsGranted c.quantum tiers after w new start more sid bytes) where
   both : StandsIn c items tiers start w × HasTier items tiers w
   both =
       one-stands c items tiers queue served start at w has here
@@ -232,12 +235,17 @@ module _ (c : Config) (items : List Flow) (tiers after : List Tier) (queue serve
       found-next c items start room w.place f has.book.sound.ascending
       (rw (slice_get-map live items w.place, stands.at) (rw (sym first-is) first.next)) read
 
+  -- what it wants at least is what its flow does
+  wanted : min w.wants c.quantum ≡ wanted_of c (live f)
+  wanted = ap (λ n. min n c.quantum) (sym stands.wants)
+
   amount : IsAmount c (live f) start room bytes
   amount =
       amount-of_most c lawful start room (live f) bytes found.next.eligible
       (most-in-limits c (live f) f.limits start room (min w.wants more) bytes lawful
-      (omega (arith, cap, stands.wants)) stands.keeps.limits stands.started
-      (granted.amount ∙ ap (λ l. most_in l start (min w.wants more)) (sym stands.limits)))
+      (omega (arith, cap, stands.wants)) stands.keeps.limits stands.keeps.periods stands.started
+      (granted.amount ∙ ap (λ l. most_with l start (min w.wants c.quantum) (min w.wants more)) (sym stands.limits)
+      ∙ ap (λ n. most_with f.limits start n (min w.wants more)) wanted))
 
   -- it with the grant
   abbrev granted-flow : Flow
@@ -246,6 +254,9 @@ module _ (c : Config) (items : List Flow) (tiers after : List Tier) (queue serve
     granted = f.granted + bytes;
     limits = limits_in after new;
     grants = record f.grants { items = f.grants.items ++ one_more start bytes };
+    reserved = record f.reserved {
+      items = cond (is_under c start (live f)) (f.reserved.items ++ one_more start bytes) f.reserved.items;
+    };
   }
 
   keeps : KeepsSums c granted-flow
@@ -255,14 +266,17 @@ module _ (c : Config) (items : List Flow) (tiers after : List Tier) (queue serve
     turn = (
       stands.keeps.turn.0,
       rw (last-more f.grants.items (record { start = start; bytes = bytes }))
-          (granted.turn (rank_of f.spec) (last_start f.grants.items) f.sid
-          (subst (IsTurn (rank_of f.spec) (last_start f.grants.items) f.sid) stands.turn stands.keeps.turn.1)),
+          (granted.turn (top_rank f.spec) (last_start f.grants.items) f.sid
+          (subst (IsTurn (top_rank f.spec) (last_start f.grants.items) f.sid) stands.turn stands.keeps.turn.1)),
     );
-    periods = periods-more (live f) (record { start = start; bytes = bytes }) stands.keeps.periods;
+    periods = periods-more c (live f) (record { start = start; bytes = bytes }) stands.keeps.periods;
     limits = limits-more c (live f) (limits_in tiers w) (limits_in after new) start bytes stands.keeps.periods
-        stands.started (subst (AreLimitsOf c (live f)) stands.limits stands.keeps.limits) granted.limits;
+        stands.started (subst (AreLimitsOf c (live f)) stands.limits stands.keeps.limits)
+        (subst (λ n. HaveOneMore (limits_in tiers w) (limits_in after new) start n bytes) wanted granted.limits);
     settled = settled-more c (live f) (limits_in tiers w) (limits_in after new) start bytes stands.keeps.periods
-        stands.started (subst (AreSettled (live f)) stands.limits stands.keeps.settled) granted.settled;
+        stands.started (subst (AreLimitsOf c (live f)) stands.limits stands.keeps.limits)
+        (subst (AreSettled (live f)) stands.limits stands.keeps.settled)
+        (subst (λ n. StaySettled (limits_in tiers w) (limits_in after new) start n bytes) wanted granted.settled);
   }
 
   -- the flows with it
@@ -273,27 +287,30 @@ module _ (c : Config) (items : List Flow) (tiers after : List Tier) (queue serve
   granted-book = served-book c items start room w.place f bytes granted-flow has.book found refl amount keeps
 
   granted-shows : map live granted-items
-      ≡ changed f.sid (with_grant (record { start = start; bytes = bytes })) (map live items)
+      ≡ changed f.sid (with_grant c (record { start = start; bytes = bytes })) (map live items)
   granted-shows =
-      placed-changed f.sid (with_grant (record { start = start; bytes = bytes })) items w.place granted-flow f
+      placed-changed f.sid (with_grant c (record { start = start; bytes = bytes })) items w.place granted-flow f
       has.book.sound.ascending found.stands refl
 
   at-granted : slice_get granted-items w.place ≡ Some granted-flow
   at-granted = set-here items w.place granted-flow (slice_get_within items w.place f stands.at)
 
-  -- what its peak rate brings is as before
-  slow : granted-flow.limits.peak.per_slot ≡ f.limits.peak.per_slot
-  slow = keeps.limits.peak.per_slot ∙ sym stands.keeps.limits.peak.per_slot
+  -- what its peak rate and its reserved rate bring is as before
+  plain : is_plain granted-flow ≡ is_plain f
+  plain =
+      ap (λ n. n == 0 && granted-flow.limits.reserved.per_slot == 0)
+      (keeps.limits.peak.per_slot ∙ sym stands.keeps.limits.peak.per_slot)
+      ∙ ap (λ n. f.limits.peak.per_slot == 0 && n == 0)
+      (keeps.limits.reserved.per_slot ∙ sym stands.keeps.limits.reserved.per_slot)
 
-  new-tier : (new.tier == NO_TIER) ≡ (granted-flow.limits.peak.per_slot == 0)
-  new-tier =
-      ap (λ k. k == NO_TIER) granted.tier.same ∙ sym stands.tier ∙ ap (λ n. n == 0) (sym slow)
+  new-tier : (new.tier == NO_TIER) ≡ is_plain granted-flow
+  new-tier = ap (λ k. k == NO_TIER) granted.tier.same ∙ sym stands.tier ∙ sym plain
 
   -- it has its tier, and each other one has its own
   has-own : HasTier granted-items after new
   has-own =
       own-tier c items tiers after w new f granted-flow stands.at both.1 granted.tier
-      (slice_get_within items w.place f stands.at) same refl slow
+      (slice_get_within items w.place f stands.at) same plain refl refl refl
 
   have-theirs : (ws : List Waiting) → AllByRecursion (λ v. v.place ≢ w.place) ws → AllByRecursion (HasTier items tiers) ws
       → AllByRecursion (HasTier granted-items after) ws
@@ -461,8 +478,8 @@ module _ (c : Config) (items : List Flow) (tiers after : List Tier) (queue serve
     flow = f;
     found = found;
     amount = amount;
-    turn = granted.turn (rank_of f.spec) (last_start f.grants.items) f.sid
-        (subst (IsTurn (rank_of f.spec) (last_start f.grants.items) f.sid) stands.turn stands.keeps.turn.1);
+    turn = granted.turn (top_rank f.spec) (last_start f.grants.items) f.sid
+        (subst (IsTurn (top_rank f.spec) (last_start f.grants.items) f.sid) stands.turn stands.keeps.turn.1);
     grown = granted-items;
     shows = granted-shows;
     book = granted-book;

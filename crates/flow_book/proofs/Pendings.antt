@@ -11,9 +11,9 @@ use Rattle.std.proofs.lemmas.List.Sums.{length-filter}
 use Rattle.std.proofs.lemmas.Option.{slice_get_within, slice_get-get_or, slice_get-map, same_Some}
 use Rattle.std.proofs.lemmas.Slice.Zip.{AllZip-right}
 use Rattle.minislots.specs.declared.config.Config.{Config}
-use Rattle.sched_calls.specs.FlowSpec.{rank_of}
+use Rattle.flow_book.specs.Entry.{top_rank}
 use Rattle.flow_book.specs.declared.flow.Flow.{Flow}
-use Rattle.flow_book.specs.declared.queue.Waiting.{Waiting}
+use Rattle.flow_book.specs.declared.waiting.Waiting.{Waiting}
 use Rattle.flow_book.specs.declared.shown.Hidden.{Hidden}
 use Rattle.flow_book.specs.Batches.{since_of}
 use Rattle.flow_book.specs.Flows.{LiveFlow, granted, outstanding}
@@ -176,8 +176,8 @@ module _ (c : Config) (items : List Flow) (are : IsBook c items) where
       let turn = turn-at items w f at found in
       record {
         at = slice_get-map live items w.place ∙ ap (option_map live) found;
-        sid = turn-ends (rank_of f.spec) (last_start f.grants.items) f.sid w.turn
-            (subst (λ t. IsTurn (rank_of f.spec) (last_start f.grants.items) f.sid t) turn knows.1);
+        sid = turn-ends (top_rank f.spec) (last_start f.grants.items) f.sid w.turn
+            (subst (λ t. IsTurn (top_rank f.spec) (last_start f.grants.items) f.sid t) turn knows.1);
         wants = sym (wants-at items w f at found);
       }
 

@@ -13,8 +13,8 @@ use Rattle.std.proofs.lemmas.List.Elements.{All-from_recursion, recursion_from_A
 use Rattle.std.proofs.lemmas.Option.{slice_get_within, slice_get-get_or}
 use Rattle.minislots.specs.declared.config.Config.{Config}
 use Rattle.flow_book.specs.declared.flow.Flow.{Flow}
-use Rattle.flow_book.specs.declared.queue.Waiting.{Waiting}
-use Rattle.sched_calls.specs.FlowSpec.{rank_of}
+use Rattle.flow_book.specs.declared.waiting.Waiting.{Waiting}
+use Rattle.flow_book.specs.Entry.{is_plain, top_rank}
 use Rattle.flow_book.specs.Choice.{last_start}
 use Rattle.flow_book.specs.Flows.{outstanding}
 use Rattle.flow_book.specs.declared.tiers.TheConstants.{NO_TIER}
@@ -158,9 +158,9 @@ module _ (items : List Flow) where
       → f.limits.sustained ≡ w.sustained
   sustained-at w f at found = ap (λ (e : ℕ × ℕ × BucketView × Bool). e.2) (entry-at w f at found)
 
-  -- and it has a tier where it has a peak rate
+  -- and it has a tier where it has a peak rate or a reservation
   pub tier-at : (w : Waiting) (f : Flow) → IsAt items w → slice_get items w.place ≡ Some f
-      → (f.limits.peak.per_slot == 0) ≡ (w.tier == NO_TIER)
+      → is_plain f ≡ (w.tier == NO_TIER)
   tier-at w f at found = ap (λ (e : ℕ × ℕ × BucketView × Bool). e.3) (entry-at w f at found)
 
   -- at one place there is one turn
@@ -278,7 +278,7 @@ same-but items place e = set-other items place e
 -- a flow that is put at a place has there what is told of it
 pub stands-at : (items : List Flow) (w : Waiting) (place : ℕ) (e : Flow) → place < length items → w.turn ≡ e.turn
     → w.wants ≡ outstanding (live e) → w.sustained ≡ e.limits.sustained
-    → (w.tier == NO_TIER) ≡ (e.limits.peak.per_slot == 0) → w.place ≡ place → IsAt (set items place e) w
+    → (w.tier == NO_TIER) ≡ is_plain e → w.place ≡ place → IsAt (set items place e) w
 stands-at items w place e lt turn wants sustained tier at =
     let here = set-here items place e lt in
     rw (at, turn, wants, sustained, tier, here) refl
@@ -331,7 +331,7 @@ module _ (c : Config) (items : List Flow) (are : IsBook c items) where
   one-place i j f g at at' same =
       let knows = knows-at i f at in
       let knows' = knows-at j g at' in
-      place-of-sid i j f g at at' (turn-sid (rank_of f.spec) (rank_of g.spec) (last_start f.grants.items)
+      place-of-sid i j f g at at' (turn-sid (top_rank f.spec) (top_rank g.spec) (last_start f.grants.items)
       (last_start g.grants.items) f.sid g.sid f.turn knows.1 (rw (sym same) at knows'.1))
 
   module _ (some more : ℕ → Type 0) (queue : List Waiting) (place : ℕ) (f : Flow)
@@ -357,7 +357,7 @@ module _ (c : Config) (items : List Flow) (are : IsBook c items) where
 
     -- a queue with the flow at one more place
     pub put-among : (w : Waiting) → w.place ≡ place → w.turn ≡ f.turn → w.wants ≡ outstanding (live f)
-        → w.sustained ≡ f.limits.sustained → (w.tier == NO_TIER) ≡ (f.limits.peak.per_slot == 0) → (some place → ⊥)
+        → w.sustained ≡ f.limits.sustained → (w.tier == NO_TIER) ≡ is_plain f → (some place → ⊥)
         → more place → IsQueueAmong items more (with-one w queue)
     put-among w at turn wants sustained tier out new =
         let stands : IsAt items w = rw (at, turn, wants, sustained, tier, here) refl in

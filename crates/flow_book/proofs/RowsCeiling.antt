@@ -13,12 +13,14 @@ use Rattle.flow_book.proofs.Unlimited.{KeepsWith-peakless}
 abbrev pub under_ceiling : List Grant → LiveFlow
 under_ceiling grants = record {
   sid = 17;
-  spec = BestEffort 3 64000 1600 0;
+  spec = BestEffort 3 64000 1600 0 0 0;
   asked = 3000;
   batches = one_request 3000 801;
   grants = grants;
   earlier = 0;
   peak_earlier = 0;
+  reserved = [];
+  reserved_earlier = 0;
 }
 
 -- a grant
@@ -43,7 +45,7 @@ kept_by_two bytes few i (suc (suc j)) h k = absurd (omega arith)
 
 may_take_second : (bytes : ℕ) → bytes ≤ 544 → MayTake base (under_ceiling (grant 844 544 ∷ [])) 884 36 bytes
 may_take_second bytes few = record {
-  ceiling = KeepsWith-peakless base (under_ceiling (grant 844 544 ∷ [])) 884 bytes refl
+  ceiling = KeepsWith-peakless base (under_ceiling (grant 844 544 ∷ [])) 884 bytes refl refl
       (λ positive. kept_by_two bytes few);
   fits = omega arith;
 }
@@ -90,7 +92,7 @@ kept bytes few i (suc (suc (suc j))) h k = absurd (omega arith)
 
 -- at 924 the flow may take 528 bytes
 may_take : (bytes : ℕ) → bytes ≤ 528 → MayTake base limited 924 36 bytes
-may_take bytes few = record { ceiling = KeepsWith-peakless base limited 924 bytes refl (λ positive. kept bytes few); fits = omega arith }
+may_take bytes few = record { ceiling = KeepsWith-peakless base limited 924 bytes refl refl (λ positive. kept bytes few); fits = omega arith }
 
 -- more bytes would break the ceiling over the window of all three
 most : (more : ℕ) → MayGrant base limited 924 36 more → more ≤ 528
@@ -124,7 +126,7 @@ abbrev pub polled_limited : LiveFlow
 polled_limited = record limited { spec = Polled 5000 0 64000 1600 0 }
 
 polled_may_take : (bytes : ℕ) → bytes ≤ 528 → MayTake base polled_limited 924 36 bytes
-polled_may_take bytes few = record { ceiling = KeepsWith-peakless base polled_limited 924 bytes refl (λ positive. kept bytes few); fits = omega arith }
+polled_may_take bytes few = record { ceiling = KeepsWith-peakless base polled_limited 924 bytes refl refl (λ positive. kept bytes few); fits = omega arith }
 
 polled_most : (more : ℕ) → MayGrant base polled_limited 924 36 more → more ≤ 528
 polled_most more may = let all = may.taken.ceiling.sustained (lit< tt) 0 2 (lit≤ tt) (lit< tt) in omega arith

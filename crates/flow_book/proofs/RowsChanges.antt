@@ -1,7 +1,8 @@
 -- Worked examples of requests that replace others, and of flows that change.
 use Rattle.std.proofs.Common.{◌≡◌, ℕ, ◌*◌, [], ◌∷◌, false, true, refl, lit<, lit≤, arith}
 use Rattle.sched_calls.specs.declared.spec.FlowSpec.TheVariants.{BestEffort}
-use Rattle.flow_book.specs.Flows.{LiveFlow, granted, outstanding, in_period, with_grant}
+use Rattle.flow_book.specs.Flows.{LiveFlow, granted, outstanding, in_period}
+use Rattle.flow_book.specs.Reserved.{with_grant}
 use Rattle.flow_book.specs.Book.{with_asked, with_replaced, with_spec}
 use Rattle.flow_book.specs.Shown.{waits, since}
 use Rattle.flow_book.specs.Bucket.{IsLevel}
@@ -16,12 +17,14 @@ use Rattle.flow_book.proofs.Unlimited.{KeepsWith-peakless, MayGrant-unlimited}
 abbrev served_in_part : LiveFlow
 served_in_part = record {
   sid = 17;
-  spec = BestEffort 3 0 0 0;
+  spec = BestEffort 3 0 0 0 0 0;
   asked = 1000;
   batches = one_request 1000 801;
   grants = grant 844 544 ∷ [];
   earlier = 0;
   peak_earlier = 0;
+  reserved = [];
+  reserved_earlier = 0;
 }
 
 -- it with 200 bytes in the place of the 456 that were outstanding
@@ -49,7 +52,7 @@ an_ask_adds_to_a_replace = (refl, refl, refl)
 -- in the next frame it is granted the 200 bytes
 pub a_replaced_flow_is_granted_these_bytes : IsAmount base replaced 884 36 200
 a_replaced_flow_is_granted_these_bytes = record {
-  allowed = MayGrant-unlimited base replaced 884 36 200 refl refl (lit< tt) (lit≤ tt) (lit≤ tt) (lit≤ tt);
+  allowed = MayGrant-unlimited base replaced 884 36 200 refl refl refl (lit< tt) (lit≤ tt) (lit≤ tt) (lit≤ tt);
   greatest = λ more may. may.asked;
 }
 
@@ -71,16 +74,16 @@ an_ask_after_none_is_the_first = refl
 
 -- the flow with two grants of 544 bytes, and bursts of 600 bytes from now on
 abbrev other_burst : LiveFlow
-other_burst = with_spec (BestEffort 3 64000 600 0) limited
+other_burst = with_spec (BestEffort 3 64000 600 0 0 0) limited
 
 -- its two grants came before the present period, of which the next one is the first
 pub another_burst_begins_a_period : (other_burst.earlier ≡ 2) × (in_period other_burst ≡ [])
-    × (in_period (with_grant (grant 924 544) other_burst) ≡ grant 924 544 ∷ [])
+    × (in_period (with_grant base (grant 924 544) other_burst) ≡ grant 924 544 ∷ [])
 another_burst_begins_a_period = (refl, refl, refl)
 
 -- another rate begins one too, and so does the one before again
-pub another_rate_begins_a_period : ((with_spec (BestEffort 3 128000 1600 0) limited).earlier ≡ 2)
-    × ((with_spec (BestEffort 3 64000 1600 0) (with_grant (grant 924 544) other_burst)).earlier ≡ 3)
+pub another_rate_begins_a_period : ((with_spec (BestEffort 3 128000 1600 0 0 0) limited).earlier ≡ 2)
+    × ((with_spec (BestEffort 3 64000 1600 0 0 0) (with_grant base (grant 924 544) other_burst)).earlier ≡ 3)
 another_rate_begins_a_period = (refl, refl)
 
 -- at 924 it has the whole burst: 600 bytes
@@ -98,7 +101,7 @@ the_first_grant_of_a_period_fills_the_room = record {
     asked = lit≤ tt;
     capped = lit≤ tt;
     taken = record {
-      ceiling = KeepsWith-peakless base other_burst 924 544 refl
+      ceiling = KeepsWith-peakless base other_burst 924 544 refl refl
           (KeepsCeiling-first base 64000 600 (grant 924 544) (lit≤ tt));
       fits = lit≤ tt;
     };
@@ -108,7 +111,7 @@ the_first_grant_of_a_period_fills_the_room = record {
 
 -- the flow with two grants, and priority 5 from now on
 abbrev other_priority : LiveFlow
-other_priority = with_spec (BestEffort 5 64000 1600 0) limited
+other_priority = with_spec (BestEffort 5 64000 1600 0 0 0) limited
 
 -- its period goes on
 pub another_priority_begins_no_period : (other_priority.earlier ≡ 0) × (in_period other_priority ≡ limited.grants)
@@ -121,13 +124,13 @@ the_third_grant_after_another_priority_is_at_the_ceiling = record {
     positive = lit< tt;
     asked = lit≤ tt;
     capped = lit≤ tt;
-    taken = record { ceiling = KeepsWith-peakless base other_priority 924 528 refl (λ positive. kept 528 (lit≤ tt)); fits = lit≤ tt };
+    taken = record { ceiling = KeepsWith-peakless base other_priority 924 528 refl refl (λ positive. kept 528 (lit≤ tt)); fits = lit≤ tt };
   };
   greatest = λ more may. let all = may.taken.ceiling.sustained (lit< tt) 0 2 (lit≤ tt) (lit< tt) in omega arith;
 }
 
 -- it is served before a flow of priority 4, and was served after it
 pub a_higher_priority_is_served_earlier :
-    (is_before other_priority (record limited { sid = 16; spec = BestEffort 4 64000 1600 0 }) ≡ true)
-    × (is_before limited (record limited { sid = 16; spec = BestEffort 4 64000 1600 0 }) ≡ false)
+    (is_before base 964 other_priority (record limited { sid = 16; spec = BestEffort 4 64000 1600 0 0 0 }) ≡ true)
+    × (is_before base 964 limited (record limited { sid = 16; spec = BestEffort 4 64000 1600 0 0 0 }) ≡ false)
 a_higher_priority_is_served_earlier = (refl, refl)

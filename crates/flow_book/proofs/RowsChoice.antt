@@ -10,18 +10,18 @@ use Rattle.flow_book.proofs.Unlimited.{IsEligible-unlimited}
 
 -- a flow of priority 1 with 544 bytes to be granted
 abbrev pub low : LiveFlow
-low = record { sid = 20; spec = BestEffort 1 0 0 0; asked = 544; batches = no_batches; grants = []; earlier = 0; peak_earlier = 0 }
+low = record { sid = 20; spec = BestEffort 1 0 0 0 0 0; asked = 544; batches = no_batches; grants = []; earlier = 0; peak_earlier = 0; reserved = []; reserved_earlier = 0 }
 
 -- a flow of priority 5 with as many
 abbrev pub high : LiveFlow
-high = record { sid = 21; spec = BestEffort 5 0 0 0; asked = 544; batches = no_batches; grants = []; earlier = 0; peak_earlier = 0 }
+high = record { sid = 21; spec = BestEffort 5 0 0 0 0 0; asked = 544; batches = no_batches; grants = []; earlier = 0; peak_earlier = 0; reserved = []; reserved_earlier = 0 }
 
 -- either may be served behind the request region
 low_is_eligible : IsEligible base 844 36 low
-low_is_eligible = IsEligible-unlimited base low 844 36 refl refl refl (lit< tt) (lit≤ tt)
+low_is_eligible = IsEligible-unlimited base low 844 36 refl refl refl refl (lit< tt) (lit≤ tt)
 
 high_is_eligible : IsEligible base 844 36 high
-high_is_eligible = IsEligible-unlimited base high 844 36 refl refl refl (lit< tt) (lit≤ tt)
+high_is_eligible = IsEligible-unlimited base high 844 36 refl refl refl refl (lit< tt) (lit≤ tt)
 
 -- the flow of the higher priority is next
 pub the_higher_priority_is_next : IsNext base (low ∷ high ∷ []) 844 36 high
@@ -42,12 +42,14 @@ the_lower_priority_is_not_next next = elim (next.first.1.0 high_is_eligible) [
 abbrev pub lower_sid : LiveFlow
 lower_sid = record {
   sid = 20;
-  spec = BestEffort 3 0 0 0;
+  spec = BestEffort 3 0 0 0 0 0;
   asked = 1000;
   batches = one_request 1000 801;
   grants = [];
   earlier = 0;
   peak_earlier = 0;
+  reserved = [];
+  reserved_earlier = 0;
 }
 
 -- a flow of the next SID that is the same otherwise
@@ -58,21 +60,21 @@ higher_sid = record lower_sid { sid = 21 }
 pub the_lower_sid_is_next : IsNext base (lower_sid ∷ higher_sid ∷ []) 844 36 lower_sid
 the_lower_sid_is_next = record {
   live = (0, lit< tt, refl);
-  eligible = IsEligible-unlimited base lower_sid 844 36 refl refl refl (lit< tt) (lit≤ tt);
+  eligible = IsEligible-unlimited base lower_sid 844 36 refl refl refl refl (lit< tt) (lit≤ tt);
   first = ((λ e. inl refl), ((λ e. inr refl), tt));
 }
 
 -- a flow of priority 7, the highest, with 544 bytes to be granted
 abbrev pub highest : LiveFlow
-highest = record { sid = 20; spec = BestEffort 7 0 0 0; asked = 544; batches = no_batches; grants = []; earlier = 0; peak_earlier = 0 }
+highest = record { sid = 20; spec = BestEffort 7 0 0 0 0 0; asked = 544; batches = no_batches; grants = []; earlier = 0; peak_earlier = 0; reserved = []; reserved_earlier = 0 }
 
 -- a polled flow of a higher SID with as many
 abbrev pub polled_waiting : LiveFlow
 polled_waiting =
-    record { sid = 21; spec = Polled 5000 0 0 0 0; asked = 544; batches = no_batches; grants = []; earlier = 0; peak_earlier = 0 }
+    record { sid = 21; spec = Polled 5000 0 0 0 0; asked = 544; batches = no_batches; grants = []; earlier = 0; peak_earlier = 0; reserved = []; reserved_earlier = 0 }
 
 polled_is_eligible : IsEligible base 844 36 polled_waiting
-polled_is_eligible = IsEligible-unlimited base polled_waiting 844 36 refl refl refl (lit< tt) (lit≤ tt)
+polled_is_eligible = IsEligible-unlimited base polled_waiting 844 36 refl refl refl refl (lit< tt) (lit≤ tt)
 
 -- the polled flow is next
 pub a_polled_flow_is_served_before_priority_seven : IsNext base (highest ∷ polled_waiting ∷ []) 844 36 polled_waiting

@@ -10,7 +10,7 @@ use Rattle.flow_book.proofs.RowsCeiling.{under_ceiling, three, kept, limited}
 
 -- the flow with two grants of 544 bytes, without a ceiling but a peak rate of 64000 bits in a second
 abbrev peaking : LiveFlow
-peaking = record limited { spec = BestEffort 3 0 0 64000 }
+peaking = record limited { spec = BestEffort 3 0 0 64000 0 0 }
 
 -- each window of three grants with at most 450 bytes in the last keeps it: 1522 bytes and the 16 of 80 minislots
 kept_by_peak : (bytes : ℕ) → bytes ≤ 450 → (i j : ℕ) → i ≤ j → j < 3
@@ -36,7 +36,7 @@ a_third_grant_is_at_the_peak_to_the_byte = record {
     asked = lit≤ tt;
     capped = lit≤ tt;
     taken = record {
-      ceiling = record { sustained = λ limited. absurd (omega arith); peak = λ positive. kept_by_peak 450 (lit≤ tt) };
+      ceiling = record { sustained = λ limited. absurd (omega arith); peak = λ positive. kept_by_peak 450 (lit≤ tt); reserved = λ under. absurd (cc) };
       fits = lit≤ tt;
     };
   };
@@ -45,7 +45,7 @@ a_third_grant_is_at_the_peak_to_the_byte = record {
 
 -- under a ceiling and a peak rate it has what both leave: 528 bytes by the one, and 450 by the other
 abbrev both : LiveFlow
-both = record limited { spec = BestEffort 3 64000 1600 64000 }
+both = record limited { spec = BestEffort 3 64000 1600 64000 0 0 }
 
 pub the_third_grant_keeps_both_ceilings : IsAmount base both 924 36 450
 the_third_grant_keeps_both_ceilings = record {
@@ -57,6 +57,7 @@ the_third_grant_keeps_both_ceilings = record {
       ceiling = record {
         sustained = λ positive. kept 450 (lit≤ tt);
         peak = λ positive. kept_by_peak 450 (lit≤ tt);
+        reserved = λ under. absurd (cc);
       };
       fits = lit≤ tt;
     };
@@ -66,7 +67,7 @@ the_third_grant_keeps_both_ceilings = record {
 
 -- a frame after its third grant it may take 8 bytes, less than the quantum, and is not eligible, polled or not
 pub a_flow_at_its_peak_is_not_eligible :
-    IsEligible base 964 36 (record (under_ceiling (three 450)) { spec = BestEffort 3 0 0 64000 }) → ⊥
+    IsEligible base 964 36 (record (under_ceiling (three 450)) { spec = BestEffort 3 0 0 64000 0 0 }) → ⊥
 a_flow_at_its_peak_is_not_eligible e =
     let all = e.takes.ceiling.peak (lit< tt) 0 3 (lit≤ tt) (lit< tt) in omega arith
 
@@ -77,12 +78,12 @@ a_polled_flow_at_its_peak_is_not_eligible e =
 
 -- another peak rate begins a period of it, and leaves that of the ceiling
 pub another_peak_begins_its_period :
-    (in_peak_period (with_spec (BestEffort 3 64000 1600 128000) both) ≡ [])
-    × (in_period (with_spec (BestEffort 3 64000 1600 128000) both) ≡ both.grants)
+    (in_peak_period (with_spec (BestEffort 3 64000 1600 128000 0 0) both) ≡ [])
+    × (in_period (with_spec (BestEffort 3 64000 1600 128000 0 0) both) ≡ both.grants)
 another_peak_begins_its_period = (refl, refl)
 
 -- and another rate leaves that of the peak rate
 pub another_rate_leaves_the_peak :
-    (in_peak_period (with_spec (BestEffort 3 128000 1600 64000) both) ≡ both.grants)
-    × (in_period (with_spec (BestEffort 3 128000 1600 64000) both) ≡ [])
+    (in_peak_period (with_spec (BestEffort 3 128000 1600 64000 0 0) both) ≡ both.grants)
+    × (in_period (with_spec (BestEffort 3 128000 1600 64000 0 0) both) ≡ [])
 another_rate_leaves_the_peak = (refl, refl)

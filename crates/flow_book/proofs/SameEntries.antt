@@ -1,39 +1,37 @@
 -- What is kept of a flow beside its grants is decided by what it shows.
 use Rattle.std.proofs.Common.{◌≡◌, refl, sym, ap, ◌∙◌, subst, ℕ, zero, suc, ◌<◌, List, [], ◌∷◌, map, filter}
-use Rattle.std.proofs.Common.{◌==◌, Bool, slice_get, Option, Some, None, option_map, arith}
+use Rattle.std.proofs.Common.{◌==◌, ◌&&◌, Bool, slice_get, Option, Some, None, option_map, arith}
 use Rattle.std.specs.List.{AllByRecursion}
 use Rattle.minislots.specs.declared.config.Config.{Config}
-use Rattle.sched_calls.specs.FlowSpec.{rank_of, rate_of, burst_of, peak_of}
+use Rattle.sched_calls.specs.FlowSpec.{rate_of, burst_of, peak_of, reserved_of, reserved_burst_of}
 use Rattle.sched_calls.specs.declared.spec.TheConstants.{PEAK_BURST}
 use Rattle.flow_book.specs.declared.flow.Flow.{Flow}
-use Rattle.flow_book.specs.declared.queue.Waiting.{Waiting}
-use Rattle.flow_book.specs.Flows.{LiveFlow, outstanding, in_period, in_peak_period}
+use Rattle.flow_book.specs.declared.waiting.Waiting.{Waiting}
+use Rattle.flow_book.specs.Flows.{LiveFlow, outstanding, in_period, in_peak_period, in_reserved_period}
 use Rattle.flow_book.specs.Limits.{AreLimitsOf, AreSettled}
 use Rattle.flow_book.specs.declared.limits.Limits.{Limits}
 use Rattle.flow_book.specs.Bucket.{BucketView}
 use Rattle.flow_book.specs.Choice.{last_start}
-use Rattle.flow_book.specs.Entry.{live, IsBook, IsTurn, KeepsSums}
+use Rattle.flow_book.specs.Entry.{live, is_plain, top_rank, IsBook, IsTurn, KeepsSums}
 use Rattle.flow_book.specs.Queue.{entry_of, IsAt, IsIn, IsQueue, IsQueueAmong, IsQueueIn, still_waits}
 use Rattle.flow_book.proofs.Buckets.{same-bucket}
 use Rattle.flow_book.proofs.Queues.{same-some}
+use Rattle.flow_book.proofs.ByTier.{same-limits}
 
 same-turn-of : (r : ℕ) (a : Option ℕ) (x t u : ℕ) → IsTurn r a x t → IsTurn r a x u → t ≡ u
 same-turn-of r None x t u e f = omega (arith, e.1, f.1)
 same-turn-of r (Some m) x t u e f = omega (arith, e.2, f.2)
 
-same-both : (x y : Limits) → x.sustained ≡ y.sustained → x.peak ≡ y.peak → x ≡ y
-same-both x y sustained peak =
-    ap (λ b. record { sustained = b; peak = x.peak }) sustained
-    ∙ ap (λ b. record { sustained = y.sustained; peak = b }) peak
-
 -- what a flow shows decides what its ceilings leave
-same-limits : (c : Config) (f : LiveFlow) (x y : Limits) → AreLimitsOf c f x → AreLimitsOf c f y → AreSettled f x
+limits-decided : (c : Config) (f : LiveFlow) (x y : Limits) → AreLimitsOf c f x → AreLimitsOf c f y → AreSettled f x
     → AreSettled f y → x ≡ y
-same-limits c f x y are are' is is' =
-    same-both x y
+limits-decided c f x y are are' is is' =
+    same-limits x y
     (same-bucket c (rate_of f.spec) (burst_of f.spec) x.sustained y.sustained (in_period f) are.sustained are'.sustained
     is.sustained is'.sustained)
     (same-bucket c (peak_of f.spec) PEAK_BURST x.peak y.peak (in_peak_period f) are.peak are'.peak is.peak is'.peak)
+    (same-bucket c (reserved_of f.spec) (reserved_burst_of f.spec) x.reserved y.reserved (in_reserved_period f)
+    are.reserved are'.reserved is.reserved is'.reserved)
 
 -- flows that show the same and keep their sums have the same entry
 same-entry : (c : Config) (f g : Flow) → KeepsSums c f → KeepsSums c g → live f ≡ live g → entry_of f ≡ entry_of g
@@ -42,14 +40,19 @@ same-entry c f g keeps keeps' same =
     let sid : f.sid ≡ g.sid = ap (λ (h : LiveFlow). h.sid) same in
     let grants : f.grants.items ≡ g.grants.items = ap (λ (h : LiveFlow). h.grants) same in
     let turn : f.turn ≡ g.turn =
-    same-turn-of (rank_of f.spec) (last_start f.grants.items) f.sid f.turn g.turn keeps.turn.1
+    same-turn-of (top_rank f.spec) (last_start f.grants.items) f.sid f.turn g.turn keeps.turn.1
     (rw (spec, grants, sid) keeps'.turn.1) in
     let limits : f.limits ≡ g.limits =
-    same-limits c (live f) f.limits g.limits keeps.limits (rw same keeps'.limits) keeps.settled (rw same keeps'.settled) in
+    limits-decided c (live f) f.limits g.limits keeps.limits (rw same keeps'.limits) keeps.settled (rw same keeps'.settled) in
     let wants : outstanding (live f) ≡ outstanding (live g) = ap outstanding same in
-    ap (λ n. (n, outstanding (live f), f.limits.sustained, f.limits.peak.per_slot == 0)) turn
-    ∙ ap (λ n. (g.turn, n, f.limits.sustained, f.limits.peak.per_slot == 0)) wants
-    ∙ ap (λ (l : Limits). (g.turn, outstanding (live g), l.sustained, l.peak.per_slot == 0)) limits
+    ap (λ n. (n, outstanding (live f), f.limits.sustained, is_plain f)) turn
+    ∙ ap (λ n. (g.turn, n, f.limits.sustained, is_plain f)) wants
+    ∙ ap (λ (l : Limits). (
+      g.turn,
+      outstanding (live g),
+      l.sustained,
+      l.peak.per_slot == 0 && l.reserved.per_slot == 0,
+    )) limits
 
 same-head : {X : Type 0} (x y : X) (xs ys : List X) → x ∷ xs ≡ y ∷ ys → x ≡ y
 same-head x y xs ys same = cc

@@ -52,8 +52,13 @@ started-drop now zero grants all = all
 started-drop now (suc n) [] all = tt
 started-drop now (suc n) (g ∷ grants) all = started-drop now n grants all.1
 
+-- grants with one more that has started have
+pub started-push : (now : ℕ) (grants : List Grant) (g : Grant) → HaveStartedBy now grants → g.start ≤ now
+    → HaveStartedBy now (grants ++ g ∷ [])
+started-push now [] g all le = (le, tt)
+started-push now (h ∷ grants) g all le = (all.0, started-push now grants g all.1 le)
+
 -- grants with one more that starts now have started
 pub started-more : (now n : ℕ) (grants : List Grant) → HaveStartedBy now grants
     → HaveStartedBy now (grants ++ record { start = now; bytes = n } ∷ [])
-started-more now n [] all = (omega arith, tt)
-started-more now n (g ∷ grants) all = (all.0, started-more now n grants all.1)
+started-more now n grants all = started-push now grants (record { start = now; bytes = n }) all (omega arith)

@@ -62,7 +62,7 @@ module _ (c : Config) (start room : ℕ) (flows : List LiveFlow) (f : Flow) wher
   -- a flow that may be served and comes before the next is the next
   pub step-changes : (o : Option (Bor Flow)) (r : Bool)
       → IsNextOf c start room flows (option_map live (option_copied o)) → IsEligible c start room (live f)
-      → MatchOption o (IsTrue r) (λ n. r ≡ is_before (live f) (live n.now)) → r ≡ true
+      → MatchOption o (IsTrue r) (λ n. r ≡ is_before c start (live f) (live n.now)) → r ≡ true
       → IsNextOf c start room (flows ++ live f ∷ []) (Some (live f))
   step-changes None r is may tested passes = next-first c start room flows (live f) is may
   step-changes (Some n) r is may tested passes =
@@ -72,7 +72,7 @@ module _ (c : Config) (start room : ℕ) (flows : List LiveFlow) (f : Flow) wher
   pub step-stays : (o : Option (Bor Flow)) (r : Bool)
       → IsNextOf c start room flows (option_map live (option_copied o))
       → AllByRecursion (λ g. g.sid < (live f).sid) flows
-      → MatchOption o (IsTrue r) (λ n. r ≡ is_before (live f) (live n.now)) → r ≡ false
+      → MatchOption o (IsTrue r) (λ n. r ≡ is_before c start (live f) (live n.now)) → r ≡ false
       → IsNextOf c start room (flows ++ live f ∷ []) (option_map live (option_copied o))
   step-stays None r is lower tested fails = absurd (cc)
   step-stays (Some n) r is lower tested fails =

@@ -9,7 +9,7 @@ use Rattle.std.proofs.lemmas.Bool.{cond_both, cases_eq}
 use Rattle.std.proofs.lemmas.Bool.Decides.{nat_tests}
 use Rattle.std.proofs.lemmas.List.Elements.{filter-append}
 use Rattle.flow_book.specs.declared.flow.Flow.{Flow}
-use Rattle.flow_book.specs.declared.queue.Waiting.{Waiting}
+use Rattle.flow_book.specs.declared.waiting.Waiting.{Waiting}
 use Rattle.flow_book.specs.Flows.{outstanding}
 use Rattle.flow_book.specs.Entry.{live}
 use Rattle.flow_book.specs.Queue.{IsAt, IsIn, IsQueue, IsQueueIn, IsOrderIn, still_waits}
@@ -101,6 +101,11 @@ module _ {X : Type 0} where
       → AllByRecursion P (xs ++ ys)
   all-joined P [] ys all all' = all'
   all-joined P (x ∷ xs) ys all all' = (all.0, all-joined P xs ys all.1 all')
+
+  -- and of each of the second where it holds of each of both
+  pub all-behind : (P : X → Type 0) (xs ys : List X) → AllByRecursion P (xs ++ ys) → AllByRecursion P ys
+  all-behind P [] ys all = all
+  all-behind P (x ∷ xs) ys all = all-behind P xs ys all.1
 
   -- what holds of those that pass before a place, and of the others, holds of all that pass
   pub kept-parts : (P : X → Type 0) (p : X → Bool) (n : ℕ) (xs : List X) → AllByRecursion P (filter p (take n xs))

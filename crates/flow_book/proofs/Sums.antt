@@ -11,7 +11,8 @@ use Rattle.sched_calls.specs.FlowSpec.{takes_requests}
 use Rattle.flow_book.specs.declared.flow.Flow.{Flow}
 use Rattle.flow_book.specs.declared.flow.Grant.{Grant}
 use Rattle.flow_book.specs.Bucket.{HaveStartedBy}
-use Rattle.flow_book.specs.Flows.{LiveFlow, bytes_of, granted, with_grant}
+use Rattle.flow_book.specs.Flows.{LiveFlow, bytes_of, granted}
+use Rattle.flow_book.specs.Reserved.{with_grant}
 use Rattle.flow_book.specs.Book.{with_spec}
 use Rattle.flow_book.specs.Choice.{last_start, MayGrant, KeepsWith}
 use Rattle.flow_book.specs.Entry.{live, asked_more, asked_instead, IsSoundFlow, KeepsSums, IsCopy, IsBook}
@@ -94,9 +95,22 @@ asked-book c sid bytes heard items i f are is takes =
       asks = λ some. takes;
       granted = keeps.granted;
       turn = keeps.turn;
-      periods = record { sustained = keeps.periods.sustained; peak = keeps.periods.peak };
-      limits = record { sustained = keeps.limits.sustained; peak = keeps.limits.peak };
-      settled = record { sustained = keeps.settled.sustained; peak = keeps.settled.peak };
+      periods = record {
+        sustained = keeps.periods.sustained;
+        peak = keeps.periods.peak;
+        reserved = keeps.periods.reserved;
+        among = keeps.periods.among;
+      };
+      limits = record {
+        sustained = keeps.limits.sustained;
+        peak = keeps.limits.peak;
+        reserved = keeps.limits.reserved;
+      };
+      settled = record {
+        sustained = keeps.settled.sustained;
+        peak = keeps.settled.peak;
+        reserved = keeps.settled.reserved;
+      };
     })
 
 -- and so where that asked for other bytes in the place of those outstanding
@@ -110,9 +124,22 @@ replaced-book c sid bytes heard items i f are is takes =
       asks = λ some. takes;
       granted = keeps.granted;
       turn = keeps.turn;
-      periods = record { sustained = keeps.periods.sustained; peak = keeps.periods.peak };
-      limits = record { sustained = keeps.limits.sustained; peak = keeps.limits.peak };
-      settled = record { sustained = keeps.settled.sustained; peak = keeps.settled.peak };
+      periods = record {
+        sustained = keeps.periods.sustained;
+        peak = keeps.periods.peak;
+        reserved = keeps.periods.reserved;
+        among = keeps.periods.among;
+      };
+      limits = record {
+        sustained = keeps.limits.sustained;
+        peak = keeps.limits.peak;
+        reserved = keeps.limits.reserved;
+      };
+      settled = record {
+        sustained = keeps.settled.sustained;
+        peak = keeps.settled.peak;
+        reserved = keeps.settled.reserved;
+      };
     })
 
 -- and so where that has other parameters and keeps its sums
@@ -123,11 +150,16 @@ changed-book c sid spec items i e f are is changed keeps =
     let within : granted (live e) ≤ e.asked =
     subst (λ (g : LiveFlow). granted g ≤ g.asked) (sym changed) sound.within in
     placed-book c sid items i e f are is (ap (λ (g : LiveFlow). g.sid) changed)
-    (record { within = within; kept = keeps.limits.sustained.kept; peak_kept = keeps.limits.peak.kept }) keeps
+    (record {
+      within = within;
+      kept = keeps.limits.sustained.kept;
+      peak_kept = keeps.limits.peak.kept;
+      reserved_kept = keeps.limits.reserved.kept;
+    }) keeps
 
 -- and so where that is with a lawful grant more
 pub granted-book : (c : Config) (sid start bytes room : ℕ) (items : List Flow) (i : ℕ) (e f : Flow) → IsBook c items
-    → StandsAt sid items i f → live e ≡ with_grant (record { start = start; bytes = bytes }) (live f)
+    → StandsAt sid items i f → live e ≡ with_grant c (record { start = start; bytes = bytes }) (live f)
     → MayGrant c (live f) start room bytes
     → (KeepsSums c f → KeepsWith c (live f) start bytes → KeepsSums c e) → IsBook c (set items i e)
 granted-book c sid start bytes room items i e f are is more may sums =

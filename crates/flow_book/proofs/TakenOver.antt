@@ -11,9 +11,9 @@ use Rattle.minislots.specs.declared.config.Config.{Config}
 use Rattle.flow_book.specs.declared.flow.Flow.{Flow}
 use Rattle.flow_book.specs.declared.flow.Grant.{Grant}
 use Rattle.flow_book.specs.declared.granted.GrantList.{GrantList}
-use Rattle.flow_book.specs.declared.queue.Waiting.{Waiting}
+use Rattle.flow_book.specs.declared.waiting.Waiting.{Waiting}
 use Rattle.flow_book.specs.Flows.{LiveFlow}
-use Rattle.flow_book.specs.FlowList.{grants_at}
+use Rattle.flow_book.specs.FlowList.{grants_at, reserved_at}
 use Rattle.flow_book.specs.Entry.{live, IsCopy, IsSoundFlow, KeepsSums}
 use Rattle.sched_calls.specs.Sids.{AscendBy}
 use Rattle.flow_book.specs.Queue.{IsAt, IsIn}
@@ -23,7 +23,7 @@ use Rattle.flow_book.specs.declared.tiers.Tier.{Tier}
 use Rattle.flow_book.specs.Taking.{CanBeTaken, IsTaken}
 use Rattle.flow_book.proofs.Once.{fresh-once}
 use Rattle.flow_book.proofs.Queues.{at-within, flow-at, turn-at, wants-at, same-turn, same-but}
-use Rattle.flow_book.proofs.PeakRates.{limits-at}
+use Rattle.flow_book.proofs.ByTier.{limits-at}
 use Rattle.flow_book.proofs.StillWaiting.{in-or-out, all-at}
 use Rattle.flow_book.proofs.Sums.{copy-sums}
 
@@ -169,24 +169,30 @@ module _ (c : Config) (old items : List Flow) (tiers : List Tier) (queue : List 
           )
 
       -- with the grants after the MAP, and what the queue has of it, it is a copy of that after it
-      pub copied : (grants : GrantList) → grants.items ≡ grants_at w.place (map live items)
-          → IsCopy is-here.0 (record f {
+      pub copied : (grants reserved : GrantList) → grants.items ≡ grants_at w.place (map live items)
+          → reserved.items ≡ reserved_at w.place (map live items) → IsCopy is-here.0 (record f {
             turn = w.turn;
             granted = f.asked - w.wants;
             limits = limits_in tiers w;
             grants = grants;
+            reserved = reserved;
           })
-      copied grants are =
+      copied grants reserved are are' =
           let g = is-here.0 in
           let here = is-here.1 in
           let theirs : grants_at w.place (map live items) ≡ g.grants.items =
           ap (λ o. option_map_or (λ (h : LiveFlow). h.grants) o []) (slice_get-map live items w.place
           ∙ ap (option_map live) here.at) in
+          let theirs' : reserved_at w.place (map live items) ≡ g.reserved.items =
+          ap (λ o. option_map_or (λ (h : LiveFlow). h.reserved) o []) (slice_get-map live items w.place
+          ∙ ap (option_map live) here.at) in
           let sound = all-at (IsSoundFlow c) (map live items) w.place (live g) can.book.sound.each
           (slice_get-map live items w.place ∙ ap (option_map live) here.at) in
           let keeps = all-at (KeepsSums c) items w.place g can.book.sums here.at in
           record {
-            same = ap (λ (gs : List Grant). record (live f) { grants = gs }) (are ∙ theirs) ∙ here.same;
+            same = ap (λ (gs : List Grant). record (live f) { grants = gs; reserved = reserved.items }) (are ∙ theirs)
+                ∙ ap (λ (gs : List Grant). record (live f) { grants = g.grants.items; reserved = gs }) (are' ∙ theirs')
+                ∙ here.same;
             granted = omega (
               arith,
               wants-at items w g here.is here.at,

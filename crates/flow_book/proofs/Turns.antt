@@ -2,7 +2,7 @@
 use Rattle.std.proofs.Common.{◌≡◌, ℕ, ◌+◌, ◌-◌, ◌*◌, ◌/◌, ◌%◌, ◌^◌, ◌<◌, ◌≤◌, nat_lt, Option, None, Some, true, arith}
 use Rattle.std.specs.Option.{IfSome}
 use Rattle.std.proofs.lemmas.Bool.Decides.{nat_tests}
-use Rattle.flow_book.specs.Entry.{IsTurn}
+use Rattle.flow_book.specs.Entry.{IsTurn, turn_in}
 use Rattle.flow_book.proofs.Order.{goes_first}
 
 -- of two flows the one with the higher SID is served first where its turn is less
@@ -47,3 +47,8 @@ pub turn-in : (r : ℕ) (a : Option ℕ) (x t rank n : ℕ) → IsTurn r a x t
     → n ≡ (255 - rank) * 2 ^ 81 + t % 2 ^ 81 → IsTurn rank a x n
 turn-in r None x t rank n e is = (e.0, omega (arith, e.0, e.1, is))
 turn-in r (Some m) x t rank n e is = (e.0, e.1, omega (arith, e.0, e.1, e.2, is))
+
+-- in a lower rank it is no earlier
+pub turn-in-later : (r : ℕ) (a : Option ℕ) (x t rank : ℕ) → rank ≤ r → IsTurn r a x t → t ≤ turn_in rank t
+turn-in-later r None x t rank low e = omega (arith, e.0, e.1, low)
+turn-in-later r (Some m) x t rank low e = omega (arith, e.0, e.1, e.2, low)

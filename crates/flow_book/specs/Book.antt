@@ -3,7 +3,7 @@ use Rattle.std.specs.Prelude.{ℕ, ◌+◌, ◌≤◌, Bool, ◌&&◌, ◌==◌,
 use Rattle.std.specs.Prelude.{if◌then◌else◌}
 use Rattle.minislots.specs.declared.config.Config.{Config}
 use Rattle.sched_calls.specs.declared.spec.FlowSpec.{FlowSpec}
-use Rattle.sched_calls.specs.FlowSpec.{rate_of, burst_of, peak_of}
+use Rattle.sched_calls.specs.FlowSpec.{rate_of, burst_of, peak_of, reserved_of, reserved_burst_of}
 use Rattle.flow_book.specs.Batches.{no_batches, with_request}
 use Rattle.flow_book.specs.Flows.{LiveFlow, flow_of, granted}
 use Rattle.sched_calls.specs.Sids.{AscendBy, put_in, taken_out}
@@ -42,7 +42,17 @@ changed sid change flows = map (λ f. if f.sid == sid then change f else f) flow
 -- a flow just admitted
 abbrev pub new_flow : ℕ → FlowSpec → LiveFlow
 new_flow sid spec =
-    record { sid = sid; spec = spec; asked = 0; batches = no_batches; grants = []; earlier = 0; peak_earlier = 0 }
+    record {
+      sid = sid;
+      spec = spec;
+      asked = 0;
+      batches = no_batches;
+      grants = [];
+      earlier = 0;
+      peak_earlier = 0;
+      reserved = [];
+      reserved_earlier = 0;
+    }
 
 -- a flow that asked for so many bytes more, in a request that was heard at this minislot
 abbrev pub with_asked : ℕ → ℕ → LiveFlow → LiveFlow
@@ -64,12 +74,18 @@ has_ceiling_of spec other = rate_of spec == rate_of other && burst_of spec == bu
 abbrev pub has_peak_of : FlowSpec → FlowSpec → Bool
 has_peak_of spec other = peak_of spec == peak_of other
 
--- a flow with these parameters from now on: another ceiling begins a period of it, and another peak rate one of that
+-- two flows have the same reservation
+abbrev pub has_reserve_of : FlowSpec → FlowSpec → Bool
+has_reserve_of spec other = reserved_of spec == reserved_of other && reserved_burst_of spec == reserved_burst_of other
+
+-- a flow with these parameters from now on: another ceiling begins a period of it, another peak rate one of that, and
+-- another reservation one of that
 abbrev pub with_spec : FlowSpec → LiveFlow → LiveFlow
 with_spec spec f = record f {
   spec = spec;
   earlier = if has_ceiling_of f.spec spec then f.earlier else length f.grants;
   peak_earlier = if has_peak_of f.spec spec then f.peak_earlier else length f.grants;
+  reserved_earlier = if has_reserve_of f.spec spec then f.reserved_earlier else length f.reserved;
 }
 
 -- the room of the flow with this SID

@@ -1,6 +1,6 @@
 -- The token bucket of a flow: what it has at a minislot, and the grants that it stands for.
 use Rattle.std.specs.Prelude.{◌≡◌, ℕ, ◌+◌, ◌-◌, ◌*◌, ◌/◌, ◌<◌, ◌≤◌, ◌==◌, ◌++◌, min, List, [], ◌∷◌, length, drop}
-use Rattle.std.specs.Prelude.{Bool, IsTrue, ◌↔◌, if◌then◌else◌}
+use Rattle.std.specs.Prelude.{Bool, IsTrue, not, ◌&&◌, ◌↔◌, if◌then◌else◌}
 use Rattle.std.specs.List.{AllByRecursion}
 use Rattle.minislots.specs.declared.config.Config.{Config}
 use Rattle.flow_book.specs.declared.flow.Grant.{Grant}
@@ -75,6 +75,10 @@ abbrev pub StaysSettled : BucketView → BucketView → ℕ → ℕ → Type 0
 StaysSettled old new slot bytes = (grants : List Grant) → IsSettled old grants → HaveStartedBy slot grants
     → IsSettled new (grants ++ record { start = slot; bytes = bytes } ∷ [])
 
--- the most bytes, up to a limit, that the bucket has at a minislot
+-- the most bytes, up to a limit, that the bucket has at a minislot: all where it holds nothing back
 abbrev pub most_of : BucketView → ℕ → ℕ → ℕ
 most_of b slot limit = if b.per_slot == 0 then limit else min limit (level_of b slot / 1280000)
+
+-- whether a bucket reserves so many bytes at a minislot: one of a rate of 0 reserves nothing
+abbrev pub reserves : BucketView → ℕ → ℕ → Bool
+reserves b slot bytes = not (b.per_slot == 0) && (most_of b slot bytes == bytes)

@@ -4,18 +4,22 @@ use Rattle.std.specs.Prelude.{◌++◌, Contains, Option, None, Some, IsSomeAnd}
 use Rattle.std.specs.List.{AllByRecursion}
 use Rattle.minislots.specs.declared.config.Config.{Config}
 use Rattle.minislots.specs.Units.{slots_for}
-use Rattle.sched_calls.specs.FlowSpec.{takes_requests, rank_of, rate_of, burst_of, peak_of}
+use Rattle.sched_calls.specs.FlowSpec.{takes_requests, rate_of, burst_of, peak_of, reserved_of, reserved_burst_of}
 use Rattle.sched_calls.specs.declared.spec.TheConstants.{PEAK_BURST}
 use Rattle.flow_book.specs.declared.flow.Grant.{Grant}
-use Rattle.flow_book.specs.Flows.{LiveFlow, outstanding, in_period, in_peak_period, flow_of}
+use Rattle.flow_book.specs.Flows.{LiveFlow, outstanding, in_period, in_peak_period, in_reserved_period, flow_of}
 use Rattle.flow_book.specs.Ceiling.{KeepsCeiling}
+use Rattle.flow_book.specs.Reserved.{is_under, rank_at}
 
--- The flow keeps its ceiling, and that of its peak rate, with one grant more
+-- The flow keeps its ceiling, and that of its peak rate, with one grant more, and where it is under its reservation it
+-- keeps that too
 pub record KeepsWith (c : Config) (f : LiveFlow) (start bytes : ℕ) : Type 0 where
   pub sustained : KeepsCeiling c (rate_of f.spec) (burst_of f.spec)
       (in_period f ++ record { start = start; bytes = bytes } ∷ [])
   pub peak : KeepsCeiling c (peak_of f.spec) PEAK_BURST
       (in_peak_period f ++ record { start = start; bytes = bytes } ∷ [])
+  pub reserved : is_under c start f ≡ true → KeepsCeiling c (reserved_of f.spec) (reserved_burst_of f.spec)
+      (in_reserved_period f ++ record { start = start; bytes = bytes } ∷ [])
 
 -- a grant of so many bytes at this minislot keeps the flow's ceilings, and fits the room
 pub record MayTake (c : Config) (f : LiveFlow) (start room bytes : ℕ) : Type 0 where
@@ -70,17 +74,17 @@ is_as_early None (Some n) = false
 is_as_early (Some m) None = false
 is_as_early (Some m) (Some n) = m == n
 
--- whether f is served before g: by rank from the highest, then by the last grant's start, then by SID
-abbrev pub is_before : LiveFlow → LiveFlow → Bool
-is_before f g = nat_lt (rank_of g.spec) (rank_of f.spec)
-    || (rank_of f.spec == rank_of g.spec && (is_earlier (last_start f.grants) (last_start g.grants)
+-- whether f is served before g at a minislot: by rank from the highest, then by the last grant's start, then by SID
+abbrev pub is_before : Config → ℕ → LiveFlow → LiveFlow → Bool
+is_before c start f g = nat_lt (rank_at c start g) (rank_at c start f)
+    || (rank_at c start f == rank_at c start g && (is_earlier (last_start f.grants) (last_start g.grants)
     || (is_as_early (last_start f.grants) (last_start g.grants) && nat_lt f.sid g.sid)))
 
 -- f is the eligible flow that is served first: each other eligible one comes after it
 pub record IsNext (c : Config) (flows : List LiveFlow) (start room : ℕ) (f : LiveFlow) : Type 0 where
   pub live : Contains flows f
   pub eligible : IsEligible c start room f
-  pub first : AllByRecursion (λ g. IsEligible c start room g → (g ≡ f) ⊎ (is_before f g ≡ true)) flows
+  pub first : AllByRecursion (λ g. IsEligible c start room g → (g ≡ f) ⊎ (is_before c start f g ≡ true)) flows
 
 -- the flow that is served first among these, or none may be served
 abbrev pub IsNextOf : Config → ℕ → ℕ → List LiveFlow → Option LiveFlow → Type 0

@@ -1,14 +1,16 @@
 -- What the fields of a flow stand for, and what is true of every book.
-use Rattle.std.specs.Prelude.{◌≡◌, true, ℕ, ◌+◌, ◌-◌, ◌*◌, ◌^◌, ◌<◌, ◌≤◌, List, map, Option, None, Some, min}
+use Rattle.std.specs.Prelude.{◌≡◌, true, ℕ, ◌+◌, ◌-◌, ◌*◌, ◌%◌, Bool, ◌==◌, ◌&&◌, ◌^◌, ◌<◌, ◌≤◌, nat_lt, List, map, Option, None, Some, min, max}
+use Rattle.std.specs.Prelude.{if◌then◌else◌}
 use Rattle.std.specs.List.{AllByRecursion}
 use Rattle.minislots.specs.declared.config.Config.{Config}
 use Rattle.minislots.specs.Units.{bytes_in}
+use Rattle.sched_calls.specs.declared.spec.FlowSpec.{FlowSpec}
 use Rattle.flow_book.specs.declared.flow.Flow.{Flow}
 use Rattle.flow_book.specs.declared.flow.Room as the_room
-use Rattle.sched_calls.specs.FlowSpec.{rank_of, rate_of, burst_of, peak_of, takes_requests}
+use Rattle.sched_calls.specs.FlowSpec.{rank_of, rate_of, burst_of, peak_of, reserved_of, reserved_burst_of, takes_requests}
 use Rattle.sched_calls.specs.declared.spec.TheConstants.{PEAK_BURST}
 use Rattle.flow_book.specs.Batches.{with_request}
-use Rattle.flow_book.specs.Flows.{LiveFlow, bytes_of, granted, in_period, in_peak_period}
+use Rattle.flow_book.specs.Flows.{LiveFlow, bytes_of, granted, in_period, in_peak_period, in_reserved_period}
 use Rattle.flow_book.specs.Ceiling.{KeepsCeiling}
 use Rattle.flow_book.specs.Choice.{last_start}
 use Rattle.flow_book.specs.Limits.{HasPeriods, AreLimitsOf, AreSettled}
@@ -24,7 +26,13 @@ live f = record {
   grants = f.grants.items;
   earlier = f.period.earlier;
   peak_earlier = f.peak_period.earlier;
+  reserved = f.reserved.items;
+  reserved_earlier = f.reserved_period.earlier;
 }
+
+-- whether it has neither a peak rate nor a reservation
+abbrev pub is_plain : Flow → Bool
+is_plain f = f.limits.peak.per_slot == 0 && f.limits.reserved.per_slot == 0
 
 -- it with so many bytes more that it asked, in a request that was heard at this minislot
 abbrev pub asked_more : ℕ → ℕ → Flow → Flow
@@ -53,12 +61,20 @@ IsTurn rank None sid turn = (sid < 2 ^ 16) × (turn ≡ (255 - rank) * 2 ^ 65 * 
 IsTurn rank (Some start) sid turn = (sid < 2 ^ 16) × (start < 2 ^ 64)
     × (turn ≡ ((255 - rank) * 2 ^ 65 + start + 1) * 2 ^ 16 + sid)
 
--- the flow knows its turn
+-- the highest rank that a flow may have: where it has a reservation at least that of a polled one
+abbrev pub top_rank : FlowSpec → ℕ
+top_rank spec = if nat_lt 0 (reserved_of spec) then max 8 (rank_of spec) else rank_of spec
+
+-- the flow knows its turn in its highest rank
 abbrev pub KnowsTurn : Flow → Type 0
-KnowsTurn f = (rank_of f.spec ≤ 255) × IsTurn (rank_of f.spec) (last_start f.grants.items) f.sid f.turn
+KnowsTurn f = (rank_of f.spec ≤ 255) × IsTurn (top_rank f.spec) (last_start f.grants.items) f.sid f.turn
+
+-- the turn of a flow that had this one, in this rank
+abbrev pub turn_in : ℕ → ℕ → ℕ
+turn_in rank turn = (255 - rank) * 2 ^ 81 + turn % 2 ^ 81
 
 -- what a flow keeps beside its grants is theirs: their bytes, its turn after the last one, and the bucket of each of
--- its ceilings that stands for those of the present period of that and is settled by them; and only a flow that takes
+-- its ceilings and of its reservation that stands for those of the present period of that and is settled by them; and only a flow that takes
 -- requests has asked for bytes
 pub record KeepsSums (c : Config) (f : Flow) : Type 0 where
   pub asks : 0 < f.asked → takes_requests f.spec ≡ true
@@ -75,11 +91,13 @@ pub record IsCopy (f g : Flow) : Type 0 where
   pub turn : g.turn ≡ f.turn
   pub limits : g.limits ≡ f.limits
 
--- a flow was granted no more than it asked, within each of its ceilings since that began
+-- a flow was granted no more than it asked, within each of its ceilings since that began, and its reserved grants are
+-- within its reservation
 pub record IsSoundFlow (c : Config) (f : LiveFlow) : Type 0 where
   pub within : granted f ≤ f.asked
   pub kept : KeepsCeiling c (rate_of f.spec) (burst_of f.spec) (in_period f)
   pub peak_kept : KeepsCeiling c (peak_of f.spec) PEAK_BURST (in_peak_period f)
+  pub reserved_kept : KeepsCeiling c (reserved_of f.spec) (reserved_burst_of f.spec) (in_reserved_period f)
 
 -- what is true of the flows of every book
 pub record IsSoundBook (c : Config) (flows : List LiveFlow) : Type 0 where

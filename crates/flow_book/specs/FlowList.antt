@@ -14,10 +14,29 @@ use Rattle.flow_book.specs.Flows.{LiveFlow}
 abbrev pub flows_code : Coded (List LiveFlow)
 flows_code =
     coded_list
-    (code_by (ℕ × (FlowSpec × (ℕ × (Batches × (List Grant × (ℕ × ℕ))))))
+    (code_by (ℕ × (FlowSpec × (ℕ × (Batches × (List Grant × (ℕ × (ℕ × (List Grant × ℕ))))))))
     (coded× coded_ℕ
-    (coded× spec.the_row.coded (coded× coded_ℕ (coded× batches.the_row.coded (coded× grants_code (coded× coded_ℕ coded_ℕ))))))
-    (λ f. (f.sid, (f.spec, (f.asked, (f.batches, (f.grants, (f.earlier, f.peak_earlier)))))))
+    (coded× spec.the_row.coded (coded× coded_ℕ (coded× batches.the_row.coded (coded× grants_code
+    (coded× coded_ℕ (coded× coded_ℕ (coded× grants_code coded_ℕ))))))))
+    (λ f. (
+      f.sid,
+      (
+        f.spec,
+        (
+          f.asked,
+          (
+            f.batches,
+            (
+              f.grants,
+              (
+                f.earlier,
+                (f.peak_earlier, (f.reserved, f.reserved_earlier)),
+              ),
+            ),
+          ),
+        ),
+      ),
+    ))
     (λ p. record {
       sid = p.0;
       spec = p.1.0;
@@ -25,10 +44,16 @@ flows_code =
       batches = p.1.1.1.0;
       grants = p.1.1.1.1.0;
       earlier = p.1.1.1.1.1.0;
-      peak_earlier = p.1.1.1.1.1.1;
+      peak_earlier = p.1.1.1.1.1.1.0;
+      reserved = p.1.1.1.1.1.1.1.0;
+      reserved_earlier = p.1.1.1.1.1.1.1.1;
     })
     (λ _. refl))
 
 -- the grants of the flow at this place, and none where there is no flow
 abbrev pub grants_at : ℕ → List LiveFlow → List Grant
 grants_at place flows = option_map_or (λ f. f.grants) (slice_get flows place) []
+
+-- its reserved grants, and none where there is no flow
+abbrev pub reserved_at : ℕ → List LiveFlow → List Grant
+reserved_at place flows = option_map_or (λ f. f.reserved) (slice_get flows place) []

@@ -1,11 +1,13 @@
 -- The live flows, each with what it asked and was granted.
-use Rattle.std.specs.Prelude.{ℕ, ◌-◌, ◌==◌, List, [], ◌∷◌, ◌++◌, sum_by, find, drop, Option}
+use Rattle.std.specs.Prelude.{ℕ, ◌-◌, ◌==◌, List, sum_by, find, drop, Option}
 use Rattle.sched_calls.specs.declared.spec.FlowSpec.{FlowSpec}
 use Rattle.flow_book.specs.declared.batches.Batches.{Batches}
 use Rattle.flow_book.specs.declared.flow.Grant.{Grant}
 
 -- a live flow: its SID and parameters, the bytes that it asked, the batches of its requests, its data grants in order,
--- and how many of them came before the present period of its ceiling, and before that of its peak rate
+-- and how many of them came before the present period of its ceiling, and before that of its peak rate; and those of
+-- its data grants that are reserved grants, in order, and how many of these came before the present period of its
+-- reservation
 pub record LiveFlow : Type 0 where
   pub sid : ℕ
   pub spec : FlowSpec
@@ -14,6 +16,8 @@ pub record LiveFlow : Type 0 where
   pub grants : List Grant
   pub earlier : ℕ
   pub peak_earlier : ℕ
+  pub reserved : List Grant
+  pub reserved_earlier : ℕ
 
 -- the bytes of some grants
 abbrev pub bytes_of : List Grant → ℕ
@@ -35,9 +39,9 @@ in_period f = drop f.earlier f.grants
 abbrev pub in_peak_period : LiveFlow → List Grant
 in_peak_period f = drop f.peak_earlier f.grants
 
--- a flow with one grant more
-abbrev pub with_grant : Grant → LiveFlow → LiveFlow
-with_grant g f = record f { grants = f.grants ++ g ∷ [] }
+-- its reserved grants in the present period of its reservation
+abbrev pub in_reserved_period : LiveFlow → List Grant
+in_reserved_period f = drop f.reserved_earlier f.reserved
 
 -- the live flow with this SID
 abbrev pub flow_of : ℕ → List LiveFlow → Option LiveFlow

@@ -7,6 +7,7 @@ pub mod Granted
 pub mod Lending
 pub mod FlowList
 pub mod Ceiling
+pub mod Reserved
 pub mod Bucket
 pub mod Limits
 pub mod Choice

@@ -3,7 +3,7 @@ use Rattle.std.specs.Prelude.{◌≡◌, ℕ, ◌⊎◌, Bool, true, List, map, 
 use Rattle.std.specs.List.{AllByRecursion, AllZip}
 use Rattle.minislots.specs.declared.config.Config.{Config}
 use Rattle.flow_book.specs.declared.flow.Flow.{Flow}
-use Rattle.flow_book.specs.declared.queue.Waiting.{Waiting}
+use Rattle.flow_book.specs.declared.waiting.Waiting.{Waiting}
 use Rattle.flow_book.specs.declared.tiers.Tier.{Tier}
 use Rattle.flow_book.specs.Flows.{LiveFlow}
 use Rattle.flow_book.specs.Entry.{live, IsBook}
@@ -19,7 +19,7 @@ pub record OverlayView : Type 0 where
 
 -- a flow is the same but for its data grants
 abbrev pub IsSameFlow : LiveFlow → LiveFlow → Type 0
-IsSameFlow f g = record f { grants = g.grants } ≡ g
+IsSameFlow f g = record f { grants = g.grants; reserved = g.reserved } ≡ g
 
 -- those that a MAP served have their tiers, and so have those of the queue that still wait
 pub record HaveTiers (is_long : Bool) (items : List Flow) (tiers : List Tier) (queue served : List Waiting) : Type 0 where

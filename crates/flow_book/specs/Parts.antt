@@ -1,15 +1,16 @@
 -- The queue while a MAP is planned, where many wait in two parts: those that it served, and the others.
-use Rattle.std.specs.Prelude.{◌≡◌, ◌≢◌, ℕ, ◌≤◌, ◌⊎◌, Bool, true, false, List, [], filter, map, Option, None, Some}
-use Rattle.std.specs.Prelude.{◌+◌, min, IfSome, slice_get, length, take, drop, insert, if◌then◌else◌}
+use Rattle.std.specs.Prelude.{◌≡◌, ◌≢◌, ℕ, ◌≤◌, ◌⊎◌, Bool, true, false, List, [], filter, map, Option, None, Some, option_map, nat_lt}
+use Rattle.std.specs.Prelude.{◌+◌, min, IfSome, slice_get, length, drop, insert, if◌then◌else◌}
 use Rattle.std.specs.List.{AllByRecursion}
 use Rattle.minislots.specs.declared.config.Config.{Config}
 use Rattle.flow_book.specs.declared.flow.Flow.{Flow}
-use Rattle.flow_book.specs.declared.queue.Waiting.{Waiting}
+use Rattle.flow_book.specs.declared.waiting.Waiting.{Waiting}
 use Rattle.flow_book.specs.declared.tiers.Tier.{Tier}
 use Rattle.flow_book.specs.declared.parts.Standing.{Standing}
+use Rattle.flow_book.specs.declared.soonest.Able.{Able}
 use Rattle.flow_book.specs.declared.parts.Standing.TheVariants.{Queued, Served}
 use Rattle.flow_book.specs.Choice.{HasStartedBy, IsNext}
-use Rattle.flow_book.specs.Limits.{most_in, HaveOneMore, StaySettled}
+use Rattle.flow_book.specs.Limits.{most_with, HaveOneMore, StaySettled}
 use Rattle.flow_book.specs.Entry.{live, IsBook, IsTurn}
 use Rattle.sched_calls.specs.Sids.{put_in}
 use Rattle.flow_book.specs.Queue.{IsAt, IsIn, IsQueueAmong, IsQueueIn, AreOnce, still_waits}
@@ -30,13 +31,22 @@ pub record HasStartedIn (c : Config) (items : List Flow) (tiers : List Tier) (qu
   pub others : AllByRecursion (HasTier items tiers) (filter still_waits queue)
   pub started : AllByRecursion (HasStartedBy start) (map live items)
 
--- those before this place come no later than the one of the queue, and the others no earlier: where there is none, none
--- are behind it
-abbrev pub IsAheadOf : List Waiting → List Waiting → ℕ → Option ℕ → Type 0
-IsAheadOf queue served ahead None = ahead ≡ length served
-IsAheadOf queue served ahead (Some index) =
-    (w : Waiting) → slice_get queue index ≡ Some w → AllByRecursion (λ v. v.turn ≤ w.turn) (take ahead served)
-    × AllByRecursion (λ v. w.turn ≤ v.turn) (drop ahead served)
+-- those from this place on come no earlier than the one of the queue: where there is none, none stand there
+abbrev pub IsAheadOf : List Waiting → ℕ → Option Able → Type 0
+IsAheadOf served ahead None = ahead ≡ length served
+IsAheadOf served ahead (Some able) = AllByRecursion (λ v. able.turn ≤ v.turn) (drop ahead served)
+
+-- one has a turn before this one
+abbrev pub is_sooner : ℕ → Option Able → Bool
+is_sooner turn None = false
+is_sooner turn (Some able) = nat_lt able.turn turn
+
+-- where the one stands that comes first of one of the queue and one of those served, which is that of the queue only
+-- where its turn is before the other's
+abbrev pub sooner_of : Option Able → Option Able → Option Standing
+sooner_of queued None = option_map (λ able. Queued able.index) queued
+sooner_of queued (Some ahead) =
+    if is_sooner ahead.turn queued then option_map (λ able. Queued able.index) queued else Some (Served ahead.index)
 
 -- the flow that is served first, in so many minislots, stands here and still waits
 pub record IsNextIn (c : Config) (items : List Flow) (queue served : List Waiting) (start room : ℕ) (at : Standing)
@@ -84,12 +94,12 @@ IsPut true items w queue served queue_after served_after = IsPutIn items w queue
 IsPut false items w queue served queue_after served_after = IsPutBack items w queue queue_after × (served_after ≡ [])
 
 -- One that waited was granted so many bytes at this minislot, the most that it may have of so many, and this is its SID
-pub record IsGranted (tiers after : List Tier) (w new : Waiting) (start most sid bytes : ℕ) : Type 0 where
-  pub amount : bytes ≡ most_in (limits_in tiers w) start (min w.wants most)
+pub record IsGranted (quantum : ℕ) (tiers after : List Tier) (w new : Waiting) (start most sid bytes : ℕ) : Type 0 where
+  pub amount : bytes ≡ most_with (limits_in tiers w) start (min w.wants quantum) (min w.wants most)
   pub wants : new.wants + bytes ≡ w.wants
   pub place : new.place ≡ w.place
-  pub limits : HaveOneMore (limits_in tiers w) (limits_in after new) start bytes
-  pub settled : StaySettled (limits_in tiers w) (limits_in after new) start bytes
+  pub limits : HaveOneMore (limits_in tiers w) (limits_in after new) start (min w.wants quantum) bytes
+  pub settled : StaySettled (limits_in tiers w) (limits_in after new) start (min w.wants quantum) bytes
   pub tier : IsSpent tiers after w new
   pub turn : (rank : ℕ) (last : Option ℕ) (sid : ℕ) → IsTurn rank last sid w.turn → IsTurn rank (Some start) sid new.turn
   pub later : (rank : ℕ) (last : Option ℕ) (sid : ℕ) → IsTurn rank last sid w.turn → IfSome last (λ m. m ≤ start)
@@ -105,5 +115,5 @@ pub record IsServedFirst (c : Config) (is_long : Bool) (items : List Flow) (tier
   pub new : Waiting
   pub here : one_at at queue served ≡ Some waiting
   pub next : IsNextIn c items queue served start room at
-  pub granted : IsGranted tiers after waiting new start most sid bytes
+  pub granted : IsGranted c.quantum tiers after waiting new start most sid bytes
   pub put : IsPut is_long items new queue served queue_after served_after

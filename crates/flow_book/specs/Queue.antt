@@ -5,22 +5,23 @@ use Rattle.std.specs.Prelude.{if◌then◌else◌}
 use Rattle.std.specs.List.{AllByRecursion}
 use Rattle.minislots.specs.declared.config.Config.{Config}
 use Rattle.flow_book.specs.declared.flow.Flow.{Flow}
-use Rattle.flow_book.specs.declared.queue.Waiting.{Waiting}
+use Rattle.flow_book.specs.declared.waiting.Waiting.{Waiting}
 use Rattle.flow_book.specs.Flows.{outstanding}
 use Rattle.flow_book.specs.declared.tiers.Tier.{Tier}
 use Rattle.flow_book.specs.declared.tiers.TheConstants.{NO_TIER}
 use Rattle.flow_book.specs.Bucket.{BucketView}
 use Rattle.flow_book.specs.Choice.{HasStartedBy, IsEligible}
-use Rattle.flow_book.specs.Tiers.{HasTier}
-use Rattle.flow_book.specs.Entry.{live, IsBook}
+use Rattle.flow_book.specs.Tiers.{HasTier, turn_at}
+use Rattle.flow_book.specs.Entry.{live, is_plain, IsBook}
 use Rattle.sched_calls.specs.Sids.{AscendBy, put_in}
 
--- a flow's turn, the bytes that it waits for, what its maximum sustained rate leaves, and whether it has no peak rate
+-- a flow's turn, the bytes that it waits for, what its maximum sustained rate leaves, and whether it has neither a peak
+-- rate nor a reservation
 abbrev pub entry_of : Flow → ℕ × ℕ × BucketView × Bool
-entry_of f = (f.turn, outstanding (live f), f.limits.sustained, f.limits.peak.per_slot == 0)
+entry_of f = (f.turn, outstanding (live f), f.limits.sustained, is_plain f)
 
 -- there is a flow at its place, and these are its turn, the bytes that it waits for, what its maximum sustained rate
--- leaves, and whether it has no peak rate
+-- leaves, and whether it has neither a peak rate nor a reservation
 abbrev pub IsAt : List Flow → Waiting → Type 0
 IsAt items w =
     option_map entry_of (slice_get items w.place) ≡ Some (w.turn, w.wants, w.sustained, w.tier == NO_TIER)
@@ -124,19 +125,30 @@ abbrev pub IsPassed : Config → ℕ → ℕ → List Flow → Waiting → Type 
 IsPassed c start room items w =
     (f : Flow) → slice_get items w.place ≡ Some f → IsEligible c start room (live f) → ⊥
 
--- its flow may not be served, or its turn is no earlier than this one
-abbrev pub IsNoEarlier : Config → ℕ → ℕ → List Flow → ℕ → Waiting → Type 0
-IsNoEarlier c start room items turn w = IsPassed c start room items w ⊎ (turn ≤ w.turn)
+-- its flow may not be served, or its turn at the minislot is no earlier than this one
+abbrev pub IsNoSooner : Config → List Tier → ℕ → ℕ → List Flow → ℕ → Waiting → Type 0
+IsNoSooner c tiers start room items turn w = IsPassed c start room items w ⊎ (turn ≤ turn_at c tiers start w)
 
--- one of a list that still waits and may be served stands here, and each that may be served is no earlier
-pub record IsFirstAble (c : Config) (items : List Flow) (queue : List Waiting) (start room index : ℕ) : Type 0 where
+-- one of a list that still waits and may be served stands here
+pub record IsAble (c : Config) (items : List Flow) (queue : List Waiting) (start room index : ℕ) : Type 0 where
   pub waiting : Waiting
   pub here : slice_get queue index ≡ Some waiting
   pub waits : still_waits waiting ≡ true
   pub flow : Flow
   pub at : slice_get items waiting.place ≡ Some flow
   pub may : IsEligible c start room (live flow)
-  pub first : AllByRecursion (IsNoEarlier c start room items waiting.turn) (filter still_waits queue)
+
+-- and none before it may be served
+pub record IsFirstAble (c : Config) (items : List Flow) (queue : List Waiting) (start room index : ℕ) : Type 0 where
+  pub able : IsAble c items queue start room index
+  pub passed : AllByRecursion (IsPassed c start room items) (filter still_waits (take index queue))
+
+-- with this turn at the minislot, and each of some of them that may be served is no earlier there
+pub record IsSoonest (c : Config) (items : List Flow) (tiers : List Tier) (some queue : List Waiting)
+    (start room index turn : ℕ) : Type 0 where
+  pub able : IsAble c items queue start room index
+  pub is : turn ≡ turn_at c tiers start able.waiting
+  pub first : AllByRecursion (IsNoSooner c tiers start room items turn) (filter still_waits some)
 
 -- its place is one more where a flow was put in at this place or before it
 abbrev pub moved_up : ℕ → Waiting → Waiting

@@ -5,7 +5,8 @@ ghost use Rattle.std.specs.Prelude.{IsSomeAnd, map, filter, option_map, slice_ge
 ghost use Rattle.std.specs.List.{AllByRecursion, position_or_len};
 ghost use Rattle.minislots.specs.Units.{slots_for};
 ghost use Rattle.sched_calls.specs.FlowSpec.{takes_requests};
-ghost use Rattle.flow_book.specs.Flows.{flow_of, granted, outstanding, with_grant};
+ghost use Rattle.flow_book.specs.Flows.{flow_of, granted, outstanding};
+ghost use Rattle.flow_book.specs.Reserved.{waits_under, with_grant};
 ghost use Rattle.flow_book.specs.Choice.{MayGrant, IsMost, IsAmount, IsNextSid};
 ghost use Rattle.flow_book.specs.Choice.{HasStartedBy};
 ghost use Rattle.flow_book.specs.Entry.{live, IsSoundFlow, IsBook, KeepsSums};
@@ -18,8 +19,10 @@ use crate::channel::Channel;
 use crate::flow::{Flow, first_eligible, reserve_each};
 use crate::flows::Flows;
 use crate::overlay::Overlay;
-use crate::queue::{Waiting, copy_of, follow, leave, make_room, make_way, queue_of};
+use crate::queue::{copy_of, follow, leave, make_room, make_way, queue_of};
 use crate::shown::Shown;
+use crate::under::under_at;
+use crate::waiting::Waiting;
 use minislots::Checked;
 use sched_calls::FlowSpec;
 use std::alloc::{AllocError, Global};
@@ -216,7 +219,7 @@ impl Book {
     }
 
     /// Gives a live flow other parameters, of its kind. What it asked and was granted stays. Another rate or burst
-    /// begins a period of its ceiling, full, and another peak rate one of that.
+    /// begins a period of its ceiling, full, another peak rate one of that, and another reservation one of that.
     pub fn change(&mut self, sid: u16, spec: FlowSpec)
         requires live { IsLive sid self.old.flows }
         requires kind { IfSome (flow_of sid self.old.flows)
@@ -229,8 +232,8 @@ impl Book {
     }
 
     /// The most bytes of a data grant to a live flow at minislot `start`, in `room` minislots: at most
-    /// what is outstanding and the grant cap, under both ceilings, in a burst that fits. 0 where no
-    /// bytes may be granted. The flow's grants start at or before `start`.
+    /// what is outstanding and the grant cap, under both ceilings, in a burst that fits, and where the flow is under its
+    /// reservation at most what that leaves. 0 where no bytes may be granted. The flow's grants start at or before `start`.
     pub fn most(&self, sid: u16, start: u64, room: u32) -> u32
         requires live { IsLive sid self.now.flows }
         requires started { IfSome (flow_of sid self.now.flows) (HasStartedBy start) }
@@ -242,8 +245,8 @@ impl Book {
 
     /// The SID of the flow that a data grant at minislot `start`, with `room` minislots before what
     /// comes next, goes to: of the flows that may take the quantum, or all that they wait for, the first
-    /// by rank from the highest, start of the last grant, none before any, and SID. `None` where no flow
-    /// may. All grants start at or before `start`.
+    /// by rank from the highest, that of a polled flow where the flow is under its reservation, start of the last grant,
+    /// none before any, and SID. `None` where no flow may. All grants start at or before `start`.
     pub fn eligible(&self, start: u64, room: u32) -> Option<u16>
         requires { AllByRecursion (HasStartedBy start) self.now.flows }
         ensures { IsNextSid self.now.config start room self.now.flows result }
@@ -252,6 +255,17 @@ impl Book {
             Some(flow) => Some(flow.sid),
             None => None,
         }
+    }
+
+    /// The SIDs of the flows that wait for bytes at minislot `start`, each under its reservation, in order of SID. All grants
+    /// start at or before `start`.
+    pub fn under(&self, start: u64) -> Result<Vec<u16>, AllocError>
+        requires { AllByRecursion (HasStartedBy start) self.now.flows }
+        ensures { IfOk result (λ sids. sids.items
+            ≡ map (λ f. f.sid) (filter (waits_under self.now.config start) self.now.flows)) }
+    {
+        let config = self.channel.config();
+        under_at(self.flows.allocator(), &self.flows, config, start)
     }
 
     /// Makes room for `grants` more grants of each live flow, so that as many calls of [`Book::grant`]
@@ -279,14 +293,16 @@ impl Book {
         requires lawful { IsSomeAnd (flow_of sid self.old.flows) (λ f.
             MayGrant self.old.config f start (slots_for self.old.config bytes) bytes) }
         ensures flows { self.new.flows
-            ≡ changed sid (with_grant (record { start = start; bytes = bytes })) self.old.flows }
+            ≡ changed sid (with_grant self.old.config (record { start = start; bytes = bytes })) self.old.flows }
         ensures config { self.new.config ≡ self.old.config }
         ensures room { room_of sid self.new.rooms + 1 ≡ room_of sid self.old.rooms }
         ensures other_room { (other : ℕ)
             → other ≢ sid → room_of other self.new.rooms ≡ room_of other self.old.rooms }
     {
         let place = self.place(sid);
-        self.flows.at_mut(place).grant(start, bytes);
+        self.flows
+            .at_mut(place)
+            .grant(self.channel.config(), start, bytes);
         self.is_queued = follow(&mut self.queue, self.is_queued, &self.flows, place);
     }
 

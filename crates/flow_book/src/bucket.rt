@@ -2,7 +2,7 @@
 
 ghost use Rattle.std.specs.Prelude.{◌≡◌, ◌*◌, ◌/◌, ◌<◌, ◌≤◌, ◌^◌, ◌==◌, [], IsTrue, false, min};
 ghost use Rattle.flow_book.specs.Bucket.{level_of, most_of, StandsFor, AnswersLevel, AnswersCeiling, HasOneMore};
-ghost use Rattle.flow_book.specs.Bucket.{IsSettled, StaysSettled};
+ghost use Rattle.flow_book.specs.Bucket.{IsSettled, StaysSettled, reserves};
 ghost use Rattle.flow_book.specs.Tiers.{unlimited};
 
 use minislots::Checked;
@@ -77,6 +77,14 @@ impl Bucket {
         ensures { result ≡ (self.now.per_slot == 0) }
     {
         self.per_slot == 0
+    }
+
+    // Whether it reserves so many bytes at this minislot: one of a rate of 0 reserves nothing.
+    pub(crate) fn reserves(&self, slot: u64, bytes: u32) -> bool
+        requires { self.now.since ≤ slot }
+        ensures { result ≡ reserves self.now slot bytes }
+    {
+        self.per_slot != 0 && self.has(slot, bytes)
     }
 
     // The same bucket again, field by field: it is copied with no stop in memory between.

@@ -6,17 +6,19 @@ ghost use Rattle.std.specs.Prelude.{option_copied, min, drop, ◌++◌, ◌∷�
 ghost use Rattle.std.specs.List.{AllByRecursion};
 ghost use Rattle.minislots.specs.declared.config.Config.{Config};
 ghost use Rattle.minislots.specs.Config.{IsLawful};
-ghost use Rattle.flow_book.specs.Flows.{granted, outstanding, with_grant};
+ghost use Rattle.flow_book.specs.Flows.{granted, outstanding};
+ghost use Rattle.flow_book.specs.Reserved.{wanted_of, is_under, waits_under, rank_at, with_grant};
 ghost use Rattle.flow_book.specs.Choice.{is_before, IsEligible, IsMost, KeepsWith};
-ghost use Rattle.flow_book.specs.Choice.{IsNextOf, HasStartedBy};
-ghost use Rattle.sched_calls.specs.FlowSpec.{takes_requests, rate_of, burst_of, peak_of};
+ghost use Rattle.flow_book.specs.Choice.{IsNextOf, HasStartedBy, last_start};
+ghost use Rattle.sched_calls.specs.FlowSpec.{takes_requests, rate_of, burst_of, peak_of, reserved_of};
+ghost use Rattle.sched_calls.specs.FlowSpec.{rank_of, reserved_burst_of};
 ghost use Rattle.sched_calls.specs.declared.spec.TheConstants.{PEAK_BURST as THE_PEAK_BURST};
 ghost use Rattle.flow_book.specs.Bucket.{HaveStartedBy, StandsFor, IsSettled};
 ghost use Rattle.flow_book.specs.Limits.{HasBegunBy, HasPeriods, AreLimitsOf, AreSettled};
 ghost use Rattle.flow_book.specs.Entry.{live, room_in, IsSoundFlow, IsSoundBook, IsTurn, KnowsTurn, KeepsSums};
-ghost use Rattle.flow_book.specs.Entry.{asked_more, asked_instead};
+ghost use Rattle.flow_book.specs.Entry.{asked_more, asked_instead, top_rank, turn_in};
 ghost use Rattle.flow_book.specs.Queue.{entry_of};
-ghost use Rattle.flow_book.specs.Book.{KeepsRoom, new_flow, has_ceiling_of, has_peak_of, with_spec};
+ghost use Rattle.flow_book.specs.Book.{KeepsRoom, new_flow, has_ceiling_of, has_peak_of, has_reserve_of, with_spec};
 ghost use Rattle.flow_book.specs.Batches.{since_of};
 ghost use Rattle.flow_book.specs.Tiers.{limits_in};
 ghost use Rattle.flow_book.specs.declared.flow.Flow.{Flow};
@@ -24,10 +26,10 @@ ghost use Rattle.flow_book.specs.declared.flow.Flow.{Flow};
 use crate::batches::Batches;
 use crate::flows::Flows;
 use crate::granted::GrantList;
-use crate::limits::{Limits, peak_of, sustained_of};
+use crate::limits::{Limits, peak_of, reserved_of, sustained_of};
 use crate::period::Period;
-use crate::queue::Waiting;
 use crate::tiers::Tier;
+use crate::waiting::Waiting;
 use minislots::Checked;
 use sched_calls::FlowSpec;
 use std::alloc::AllocError;
@@ -66,10 +68,13 @@ pub(crate) const SIDS: u128 = 1 << 16;
 // The turns of all SIDs of a rank.
 const RANKS: u128 = TURNS * SIDS;
 
+// The rank of a flow under its reservation: that of polled flows.
+pub(crate) const RESERVED_RANK: u8 = 8;
+
 // A live flow.
 #[derive(Drop)]
 pub(crate) struct Flow {
-    // Its turn among the flows that may be served: the least is served first.
+    // Its turn in its highest rank among the flows that may be served: the least is served first.
     pub(crate) turn: u128,
     // The bytes of all requests.
     pub(crate) asked: u64,
@@ -77,7 +82,7 @@ pub(crate) struct Flow {
     batches: Batches,
     // The bytes of all data grants.
     granted: u64,
-    // What the data grants leave under both ceilings.
+    // What the data grants leave under both ceilings, and of the reservation.
     pub(crate) limits: Limits,
     pub(crate) spec: FlowSpec,
     pub(crate) sid: u16,
@@ -86,6 +91,9 @@ pub(crate) struct Flow {
     // The present periods of its ceiling and of its peak rate, for contracts alone.
     pub(crate) period: Period,
     pub(crate) peak_period: Period,
+    // The reserved grants, in order, and the present period of its reservation, for contracts alone.
+    pub(crate) reserved: GrantList,
+    pub(crate) reserved_period: Period,
 }
 
 impl Flow {
@@ -100,11 +108,13 @@ impl Flow {
             asked: 0,
             batches: Batches::none(),
             granted: 0,
-            turn: turn_of(spec.rank(), sid),
+            turn: turn_of(top_rank(&spec), sid),
             limits: Limits::open(config, &spec),
             grants: GrantList::none(),
             period: Period::first(),
             peak_period: Period::first(),
+            reserved: GrantList::none(),
+            reserved_period: Period::first(),
         }
     }
 
@@ -147,17 +157,18 @@ impl Flow {
         self.ask(bytes, heard);
     }
 
-    // Gives the flow these parameters. Another ceiling begins a period, with a full bucket, and so does another peak
-    // rate.
+    // Gives the flow these parameters. Another ceiling begins a period, with a full bucket, and so do another peak
+    // rate and another reservation.
     pub(crate) fn change(&mut self, config: &Checked, spec: FlowSpec)
         ensures live { live self.new ≡ with_spec spec (live self.old) }
         ensures room { room_in self.new ≡ room_in self.old }
         ensures sums { takes_requests spec ≡ takes_requests self.old.spec
             → KeepsSums config.now self.old → KeepsSums config.now self.new }
     {
-        self.turn = turn_in(self.turn, spec.rank());
+        self.turn = turn_in(self.turn, top_rank(&spec));
         self.change_sustained(config, &spec);
         self.change_peak(config, &spec);
+        self.change_reserved(config, &spec);
         self.spec = spec;
     }
 
@@ -203,6 +214,27 @@ impl Flow {
         }
     }
 
+    // Begins a period of the flow's reservation where that is another with these parameters.
+    fn change_reserved(&mut self, config: &Checked, spec: &FlowSpec)
+        ensures same { self.new ≡ record self.old {
+          limits = record self.old.limits { reserved = self.new.limits.reserved };
+          reserved_period = self.new.reserved_period;
+        } }
+        ensures period { self.new.reserved_period.earlier ≡ (if has_reserve_of self.old.spec spec.now
+            then self.old.reserved_period.earlier else length self.old.reserved.items) }
+        ensures bucket { StandsFor config.now (reserved_of self.old.spec) (reserved_burst_of self.old.spec)
+            self.old.limits.reserved (drop self.old.reserved_period.earlier self.old.reserved.items)
+            → StandsFor config.now (reserved_of spec.now) (reserved_burst_of spec.now)
+            self.new.limits.reserved (drop self.new.reserved_period.earlier self.old.reserved.items) }
+        ensures settled { IsSettled self.old.limits.reserved (drop self.old.reserved_period.earlier self.old.reserved.items)
+            → IsSettled self.new.limits.reserved (drop self.new.reserved_period.earlier self.old.reserved.items) }
+    {
+        if !has_reserve_of(&self.spec, spec) {
+            self.limits.reserved = reserved_of(config, spec);
+            self.reserved_period = Period::behind(&self.reserved);
+        }
+    }
+
     // Whether the flow waits for bytes.
     pub(crate) fn waits(&self) -> bool
         requires sum { self.now.granted ≡ granted (live self.now) }
@@ -212,17 +244,66 @@ impl Flow {
         self.outstanding() > 0
     }
 
-    // Whether this flow is served before the next of those before it, if there is one: by rank from the
+    // The bytes that the flow wants at least: the quantum, or all that it waits for where they are fewer.
+    fn wanted(&self, config: &Checked) -> u32
+        requires sum { self.now.granted ≡ granted (live self.now) }
+        requires within { granted (live self.now) ≤ self.now.asked }
+        ensures value { result ≡ wanted_of config.now (live self.now) }
+        ensures lawful { IsLawful config.now }
+    {
+        self.outstanding().min(u64::from(config.quantum())) as u32
+    }
+
+    // Whether the flow is under its reservation at this minislot.
+    fn is_under(&self, config: &Checked, start: u64) -> bool
+        requires sums { KeepsSums config.now self.now }
+        requires within { granted (live self.now) ≤ self.now.asked }
+        requires started { HaveStartedBy start self.now.grants.items }
+        ensures { result ≡ is_under config.now start (live self.now) }
+    {
+        self.limits.reserved.reserves(start, self.wanted(config))
+    }
+
+    // Whether the flow waits for bytes at this minislot, under its reservation.
+    pub(crate) fn waits_under(&self, config: &Checked, start: u64) -> bool
+        requires sums { KeepsSums config.now self.now }
+        requires within { granted (live self.now) ≤ self.now.asked }
+        requires started { HaveStartedBy start self.now.grants.items }
+        ensures { result ≡ waits_under config.now start (live self.now) }
+    {
+        self.waits() && self.is_under(config, start)
+    }
+
+    // The flow's turn at this minislot, where it is of a polled flow's rank under its reservation.
+    fn turn_at(&self, config: &Checked, start: u64) -> u128
+        requires sums { KeepsSums config.now self.now }
+        requires within { granted (live self.now) ≤ self.now.asked }
+        requires started { HaveStartedBy start self.now.grants.items }
+        ensures { IsTurn (rank_at config.now start (live self.now)) (last_start self.now.grants.items) self.now.sid result }
+    {
+        let rank = if self.is_under(config, start) {
+            RESERVED_RANK
+        } else {
+            self.spec.rank()
+        };
+        turn_in(self.turn, rank)
+    }
+
+    // Whether this flow is served at this minislot before the next of those before it, if there is one: by rank from the
     // highest, then by the start of the last grant, none before any, then by SID, which is higher here.
-    fn comes_before(&self, next: Option<&Flow>) -> bool
-        requires turn { KnowsTurn self.now }
-        requires next_turn { IfSome next (λ n. KnowsTurn n.now) }
+    fn comes_before(&self, config: &Checked, start: u64, next: Option<&Flow>) -> bool
+        requires sums { KeepsSums config.now self.now }
+        requires within { granted (live self.now) ≤ self.now.asked }
+        requires started { HaveStartedBy start self.now.grants.items }
+        requires next_sums { IfSome next (λ n. KeepsSums config.now n.now) }
+        requires next_within { IfSome next (λ n. granted (live n.now) ≤ n.now.asked) }
+        requires next_started { IfSome next (λ n. HaveStartedBy start n.now.grants.items) }
         requires lower { IfSome next (λ n. n.now.sid < self.now.sid) }
         ensures { MatchOption next.entry
-            (IsTrue result) (λ n. result ≡ is_before (live self.now) (live n.now)) }
+            (IsTrue result) (λ n. result ≡ is_before config.now start (live self.now) (live n.now)) }
     {
         match next {
-            Some(next) => self.turn < next.turn,
+            Some(next) => self.turn_at(config, start) < next.turn_at(config, start),
             None => true,
         }
     }
@@ -237,7 +318,7 @@ impl Flow {
         ensures lawful { IsLawful config.now }
     {
         let limit = self.limit(config, config.bytes_in(room));
-        self.limits.most(start, limit)
+        self.limits.most(start, self.wanted(config), limit)
     }
 
     // The most bytes that a data grant of at most so many may have, were there no ceiling.
@@ -262,7 +343,7 @@ impl Flow {
         if !self.spec.takes_requests() {
             return false;
         }
-        let wanted = self.outstanding().min(u64::from(config.quantum())) as u32;
+        let wanted = self.wanted(config);
         if wanted == 0 || u64::from(wanted) > config.bytes_in(room) {
             return false;
         }
@@ -270,55 +351,70 @@ impl Flow {
     }
 
     // Gives the flow the data grants that a MAP adds, and what the queue has of it with them.
-    pub(crate) fn take_over(&mut self, waiting: &Waiting, tiers: &[Tier], grants: GrantList)
+    pub(crate) fn take_over(
+        &mut self,
+        waiting: &Waiting,
+        tiers: &[Tier],
+        grants: GrantList,
+        reserved: GrantList,
+    )
         requires { waiting.now.wants ≤ self.old.asked }
         ensures { self.new ≡ record self.old {
           turn = waiting.now.turn;
           granted = self.old.asked - waiting.now.wants;
           limits = limits_in tiers.now waiting.now;
           grants = grants;
+          reserved = reserved;
         } }
     {
         self.turn = waiting.turn;
         self.granted = self.asked - waiting.wants;
         self.limits = waiting.limits(tiers);
         self.grants = grants;
+        self.reserved = reserved;
     }
 
     // Adds a data grant, for which there is room, of bytes that were asked. The grants start at or before
     // `start`.
-    pub(crate) fn grant(&mut self, start: u64, bytes: u32)
+    pub(crate) fn grant(&mut self, config: &Checked, start: u64, bytes: u32)
         requires room { 0 < (room_in self.old).grants }
         requires asked { self.old.granted + bytes ≤ self.old.asked }
-        requires begun { HasBegunBy start self.old.limits }
+        requires sums { KeepsSums config.now self.old }
+        requires started { HaveStartedBy start self.old.grants.items }
+        requires keeps { KeepsWith config.now (live self.old) start bytes }
         ensures live { live self.new
-            ≡ with_grant (record { start = start; bytes = bytes }) (live self.old) }
+            ≡ with_grant config.now (record { start = start; bytes = bytes }) (live self.old) }
         ensures room { (room_in self.new).grants + 1 ≡ (room_in self.old).grants }
-        ensures sums { (c : Config) → KeepsSums c self.old → HaveStartedBy start
-            self.old.grants.items → KeepsWith c (live self.old) start bytes → KeepsSums c self.new }
+        ensures sums { KeepsSums config.now self.new }
     {
-        self.limits.take(start, bytes);
-        self.note(start, bytes);
+        let wanted = self.wanted(config);
+        let is_reserved = self.limits.take(start, wanted, bytes);
+        self.note(start, bytes, is_reserved);
     }
 
-    // Notes a data grant that its bucket stands for, for which there is room, of bytes that were asked.
-    fn note(&mut self, start: u64, bytes: u32)
+    // Notes a data grant that its buckets stand for, a reserved one or not, for which there is room, of bytes that were
+    // asked.
+    fn note(&mut self, start: u64, bytes: u32, is_reserved: bool)
         requires room { 0 < (room_in self.old).grants }
         requires asked { self.old.granted + bytes ≤ self.old.asked }
-        ensures live { live self.new
-            ≡ with_grant (record { start = start; bytes = bytes }) (live self.old) }
+        ensures live { (c : Config) → is_reserved ≡ is_under c start (live self.old) → live self.new
+            ≡ with_grant c (record { start = start; bytes = bytes }) (live self.old) }
         ensures room { (room_in self.new).grants + 1 ≡ (room_in self.old).grants }
-        ensures sums { (c : Config)
+        ensures sums { (c : Config) → is_reserved ≡ is_under c start (live self.old)
             → (0 < self.old.asked → takes_requests self.old.spec ≡ true)
             → self.old.granted ≡ granted (live self.old) → KnowsTurn self.old
             → HasPeriods (live self.old)
-            → AreLimitsOf c (with_grant (record { start = start; bytes = bytes }) (live self.old)) self.old.limits
-            → AreSettled (with_grant (record { start = start; bytes = bytes }) (live self.old)) self.old.limits
+            → AreLimitsOf c (with_grant c (record { start = start; bytes = bytes }) (live self.old)) self.old.limits
+            → AreSettled (with_grant c (record { start = start; bytes = bytes }) (live self.old)) self.old.limits
             → KeepsSums c self.new }
     {
+        let grant = Grant { start, bytes };
         self.granted += u64::from(bytes);
         self.turn = turn_after(self.turn, start);
-        self.grants = GrantList::and(&self.grants, &Grant { start, bytes });
+        self.grants = GrantList::and(&self.grants, &grant);
+        if is_reserved {
+            self.reserved = GrantList::and(&self.reserved, &grant);
+        }
     }
 }
 
@@ -338,7 +434,9 @@ pub(crate) fn first_eligible<'a>(
     let mut next = None;
     for place in 0..flows.len() {
         let flow = flows.at(place);
-        if both(flow.waits(), flow.comes_before(next)) && flow.is_eligible(config, start, room) {
+        if both(flow.waits(), flow.comes_before(config, start, next))
+            && flow.is_eligible(config, start, room)
+        {
             next = Some(flow);
         }
     }
@@ -375,11 +473,29 @@ fn turn_of(rank: u8, sid: u16) -> u128
     u128::from(u8::MAX - rank) * TURNS * SIDS + u128::from(sid)
 }
 
+// The highest rank that a flow with these parameters may have.
+fn top_rank(spec: &FlowSpec) -> u8
+    ensures { result ≡ top_rank spec.now }
+{
+    if spec.reserved() == 0 {
+        return spec.rank();
+    }
+    spec.rank().max(RESERVED_RANK)
+}
+
 // The turn of a flow that had this one, in this rank: its last data grant and its SID are the same.
-fn turn_in(turn: u128, rank: u8) -> u128
-    ensures { (before sid : ℕ) (last : Option ℕ) → IsTurn before last sid turn → IsTurn rank last sid result }
+pub(crate) fn turn_in(turn: u128, rank: u8) -> u128
+    ensures of { (before sid : ℕ) (last : Option ℕ) → IsTurn before last sid turn → IsTurn rank last sid result }
+    ensures value { result ≡ turn_in rank turn }
 {
     u128::from(u8::MAX - rank) * RANKS + turn % RANKS
+}
+
+// Whether two flows have the same reservation.
+fn has_reserve_of(spec: &FlowSpec, other: &FlowSpec) -> bool
+    ensures { result ≡ has_reserve_of spec.now other.now }
+{
+    spec.reserved() == other.reserved() && spec.reserved_burst() == other.reserved_burst()
 }
 
 // Whether two flows have the same ceiling.

@@ -2,14 +2,16 @@
 
 ghost use Rattle.std.specs.Prelude.{◌≡◌, List, [], ◌∷◌, ◌++◌, map};
 ghost use Rattle.std.specs.Borrow.{ftrue};
-ghost use Rattle.flow_book.specs.Flows.{LiveFlow, with_grant};
+ghost use Rattle.flow_book.specs.Flows.{LiveFlow};
+ghost use Rattle.flow_book.specs.Reserved.{with_grant};
 ghost use Rattle.flow_book.specs.Book.{changed};
 ghost use Rattle.flow_book.specs.Entry.{live};
-ghost use Rattle.flow_book.specs.FlowList.{flows_code, grants_at};
+ghost use Rattle.flow_book.specs.FlowList.{flows_code, grants_at, reserved_at};
 
 use crate::flow::{Flow, Grant};
 use crate::flows::Flows;
 use crate::granted::GrantList;
+use minislots::Checked;
 use std::marker::Model;
 
 // The live flows of a book, in order. They stand in proofs alone, so they take no memory, and a copy of them is no work.
@@ -47,9 +49,14 @@ impl FlowList {
         FlowList {}
     }
 
-    // The flows, where that of this SID has one grant more.
-    pub(crate) fn granted(_before: &FlowList, _sid: &u16, _grant: &Grant) -> FlowList
-        ensures { result.items ≡ changed _sid.now (with_grant _grant.now) _before.now.items }
+    // The flows of this channel, where that of this SID has one grant more.
+    pub(crate) fn granted(
+        _before: &FlowList,
+        _config: &Checked,
+        _sid: &u16,
+        _grant: &Grant,
+    ) -> FlowList
+        ensures { result.items ≡ changed _sid.now (with_grant _config.now _grant.now) _before.now.items }
     {
         FlowList {}
     }
@@ -57,6 +64,13 @@ impl FlowList {
     // The grants of the flow at this place, with no room for more.
     pub(crate) fn grants_at(_flows: &FlowList, _place: &usize) -> GrantList
         ensures { result.items ≡ grants_at _place.now _flows.now.items }
+    {
+        GrantList {}
+    }
+
+    // The reserved grants of the flow at this place, with no room for more.
+    pub(crate) fn reserved_at(_flows: &FlowList, _place: &usize) -> GrantList
+        ensures { result.items ≡ reserved_at _place.now _flows.now.items }
     {
         GrantList {}
     }

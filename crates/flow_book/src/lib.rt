@@ -16,8 +16,11 @@ mod parts;
 mod period;
 mod queue;
 mod shown;
+mod soonest;
 mod taking;
 mod tiers;
+mod under;
+mod waiting;
 
 pub use batches::Batches;
 pub use book::Book;

@@ -1,26 +1,26 @@
-//! What both ceilings of a flow leave to it.
+//! What both ceilings of a flow leave to it, and its reservation.
 
 ghost use Rattle.std.specs.Prelude.{◌≡◌, ◌==◌, []};
-ghost use Rattle.sched_calls.specs.FlowSpec.{rate_of, burst_of, peak_of};
+ghost use Rattle.sched_calls.specs.FlowSpec.{rate_of, burst_of, peak_of, reserved_of, reserved_burst_of};
 ghost use Rattle.sched_calls.specs.declared.spec.TheConstants.{PEAK_BURST as THE_PEAK_BURST};
-ghost use Rattle.flow_book.specs.Bucket.{StandsFor, IsSettled};
+ghost use Rattle.flow_book.specs.Bucket.{StandsFor, IsSettled, reserves};
 ghost use Rattle.minislots.specs.declared.config.Config.{Config};
-ghost use Rattle.flow_book.specs.Flows.{LiveFlow, with_grant};
-ghost use Rattle.flow_book.specs.Choice.{KeepsWith, HasStartedBy};
-ghost use Rattle.flow_book.specs.Limits.{HasBegunBy, HasPeriods, AreLimitsOf, AreSettled};
-ghost use Rattle.flow_book.specs.Limits.{most_in};
+ghost use Rattle.flow_book.specs.Limits.{HasBegunBy, HaveOneMore, StaySettled};
+ghost use Rattle.flow_book.specs.Limits.{most_in, most_with};
 
 use crate::bucket::Bucket;
 use minislots::Checked;
 use sched_calls::{FlowSpec, PEAK_BURST};
 
-// What both ceilings of a flow leave to it, each over its own present period.
+// What both ceilings of a flow leave to it, and its reservation, each over its own present period.
 #[derive(Clone, Copy)]
 pub(crate) struct Limits {
     // Under the maximum sustained rate and burst.
     pub(crate) sustained: Bucket,
     // Under the peak rate.
     pub(crate) peak: Bucket,
+    // Of the minimum reserved rate and its burst.
+    pub(crate) reserved: Bucket,
 }
 
 impl Limits {
@@ -30,18 +30,26 @@ impl Limits {
         ensures sustained_settled { IsSettled result.sustained [] }
         ensures peak { StandsFor config.now (peak_of spec.now) THE_PEAK_BURST result.peak [] }
         ensures peak_settled { IsSettled result.peak [] }
+        ensures reserved { StandsFor config.now (reserved_of spec.now) (reserved_burst_of spec.now) result.reserved [] }
+        ensures reserved_settled { IsSettled result.reserved [] }
     {
         Limits {
             sustained: sustained_of(config, spec),
             peak: peak_of(config, spec),
+            reserved: reserved_of(config, spec),
         }
     }
 
-    // The most bytes, up to the limit, of a grant that starts at this minislot.
-    pub(crate) fn most(&self, slot: u64, limit: u32) -> u32
+    // The most bytes, up to the limit, of a grant that starts at this minislot, to one that wants so many at least.
+    pub(crate) fn most(&self, slot: u64, wanted: u32, limit: u32) -> u32
         requires { HasBegunBy slot self.now }
-        ensures { result ≡ most_in self.now slot limit }
+        ensures { result ≡ most_with self.now slot wanted limit }
     {
+        let limit = if self.reserved.reserves(slot, wanted) {
+            self.reserved.most(slot, limit)
+        } else {
+            limit
+        };
         self.sustained.most(slot, self.peak.most(slot, limit))
     }
 
@@ -53,18 +61,22 @@ impl Limits {
         self.sustained.has(slot, bytes) && self.peak.has(slot, bytes)
     }
 
-    // Takes a grant of so many bytes that starts at this minislot, where it keeps both ceilings.
-    pub(crate) fn take(&mut self, slot: u64, bytes: u32)
-        requires { HasBegunBy slot self.old }
-        ensures limits { (c : Config) (f : LiveFlow) → AreLimitsOf c f self.old → HasPeriods f
-            → HasStartedBy slot f → KeepsWith c f slot bytes
-            → AreLimitsOf c (with_grant (record { start = slot; bytes = bytes }) f) self.new }
-        ensures settled { (c : Config) (f : LiveFlow) → AreLimitsOf c f self.old → AreSettled f self.old → HasPeriods f
-            → HasStartedBy slot f → KeepsWith c f slot bytes
-            → AreSettled (with_grant (record { start = slot; bytes = bytes }) f) self.new }
+    // Takes a grant of so many bytes that starts at this minislot, to a flow that wants so many at least, where it keeps
+    // both ceilings, and the reservation where it is a reserved one. Answers whether it is.
+    pub(crate) fn take(&mut self, slot: u64, wanted: u32, bytes: u32) -> bool
+        requires begun { HasBegunBy slot self.old }
+        requires has { most_with self.old slot wanted bytes ≡ bytes }
+        ensures reserved { result ≡ reserves self.old.reserved slot wanted }
+        ensures taken { HaveOneMore self.old self.new slot wanted bytes }
+        ensures settled { StaySettled self.old self.new slot wanted bytes }
     {
-        let _ = self.sustained.take(slot, bytes);
-        let _ = self.peak.take(slot, bytes);
+        let is_reserved = self.reserved.reserves(slot, wanted);
+        self.sustained.spend(slot, bytes);
+        self.peak.spend(slot, bytes);
+        if is_reserved {
+            self.reserved.spend(slot, bytes);
+        }
+        is_reserved
     }
 }
 
@@ -82,4 +94,12 @@ pub(crate) fn peak_of(config: &Checked, spec: &FlowSpec) -> Bucket
     ensures settled { IsSettled result [] }
 {
     Bucket::open(config, spec.peak(), PEAK_BURST)
+}
+
+// The bucket of the reservation, full.
+pub(crate) fn reserved_of(config: &Checked, spec: &FlowSpec) -> Bucket
+    ensures empty { StandsFor config.now (reserved_of spec.now) (reserved_burst_of spec.now) result [] }
+    ensures settled { IsSettled result [] }
+{
+    Bucket::open(config, spec.reserved(), spec.reserved_burst())
 }

@@ -3,11 +3,12 @@
 ghost use Rattle.std.specs.Prelude.{◌≡◌, [], Some, map, filter, IfOk, IfSome, None, option_map, true};
 ghost use Rattle.std.specs.Prelude.{vec_capacity};
 ghost use Rattle.std.specs.List.{AllByRecursion};
-ghost use Rattle.flow_book.specs.Flows.{flow_of, with_grant};
+ghost use Rattle.flow_book.specs.Flows.{flow_of};
 ghost use Rattle.flow_book.specs.Choice.{IsAmount, IsNextSid, HasStartedBy};
 ghost use Rattle.flow_book.specs.Entry.{live, IsBook};
 ghost use Rattle.flow_book.specs.Queue.{IsQueue, HasRoom};
 ghost use Rattle.flow_book.specs.Shown.{is_shown, ack_of};
+ghost use Rattle.flow_book.specs.Reserved.{with_grant};
 ghost use Rattle.flow_book.specs.Book.{changed};
 
 use crate::channel::Channel;
@@ -15,10 +16,10 @@ use crate::flow::{Grant, Room, Served};
 use crate::flow_list::{FlowList, list_of};
 use crate::flows::Flows;
 use crate::parts::serve_first;
-use crate::queue::Waiting;
 use crate::shown::{Shown, show};
 use crate::taking::{merge, put_back, take_over};
 use crate::tiers::{Tier, tiers_of};
+use crate::waiting::Waiting;
 use minislots::Checked;
 use std::alloc::AllocError;
 use std::marker::Model;
@@ -128,7 +129,7 @@ impl Overlay {
         ensures amount { IfSome result (λ s. IfSome (flow_of s.sid self.old.flows)
             (λ f. IsAmount self.old.config f start room s.bytes)) }
         ensures flows { IfSome result (λ s. self.new.flows ≡ changed s.sid
-            (with_grant (record { start = start; bytes = s.bytes })) self.old.flows) }
+            (with_grant self.old.config (record { start = start; bytes = s.bytes })) self.old.flows) }
         ensures none { result ≡ None → self.new ≡ self.old }
         ensures config { self.new.config ≡ self.old.config }
         ensures before { self.new.before ≡ self.old.before }
@@ -147,7 +148,7 @@ impl Overlay {
             room,
         )?;
         let Served { sid, bytes } = served;
-        self.flows = FlowList::granted(&self.flows, &sid, &Grant { start, bytes });
+        self.flows = FlowList::granted(&self.flows, config, &sid, &Grant { start, bytes });
         Some(served)
     }
 

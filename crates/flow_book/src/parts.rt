@@ -6,7 +6,7 @@ ghost use Rattle.std.specs.Prelude.{None, Some, ◌^◌};
 ghost use Rattle.std.specs.Prelude.{option_map, slice_get, vec_capacity};
 ghost use Rattle.minislots.specs.Config.{IsLawful};
 ghost use Rattle.flow_book.specs.declared.flow.Flow.{Flow};
-ghost use Rattle.flow_book.specs.declared.queue.Waiting.{Waiting};
+ghost use Rattle.flow_book.specs.declared.waiting.Waiting.{Waiting};
 ghost use Rattle.flow_book.specs.Choice.{NoneEligible};
 ghost use Rattle.flow_book.specs.Entry.{live, IsRoom};
 ghost use Rattle.flow_book.specs.Limits.{HasBegunBy};
@@ -14,11 +14,13 @@ ghost use Rattle.flow_book.specs.Tiers.{limits_in};
 ghost use Rattle.sched_calls.specs.Sids.{AscendBy, put_in};
 ghost use Rattle.flow_book.specs.Queue.{IsOrderIn, IsQueueIn, IsShortQueue, HasRoom, NoneWaitsBefore, still_waits};
 ghost use Rattle.flow_book.specs.declared.parts.Standing.TheVariants.{Queued};
-ghost use Rattle.flow_book.specs.Parts.{one_at, HasStartedIn, IsAheadOf, IsNextIn, IsPutIn, IsPutBack, IsGranted, IsServedFirst};
+ghost use Rattle.flow_book.specs.Parts.{one_at, sooner_of, is_sooner, HasStartedIn, IsAheadOf, IsNextIn, IsPutIn, IsPutBack, IsGranted, IsServedFirst};
 
 use crate::flow::{Room, Served};
-use crate::queue::{Waiting, first_able, move_back, place_after, put_on};
+use crate::queue::{move_back, place_after, put_on};
+use crate::soonest::{Able, first_able, soonest, soonest_of};
 use crate::tiers::Tier;
+use crate::waiting::Waiting;
 use minislots::Checked;
 
 // Where one stands that waits: in the queue, or among those that the MAP served.
@@ -29,26 +31,48 @@ pub(crate) enum Standing {
 }
 
 // The place among those served behind which none comes before this one of the queue: the end where there is none.
-fn ahead_of(queue: &[Waiting], queued: Option<usize>, served: &[Waiting]) -> usize
-    requires within { IfSome queued (λ index. index < length queue.now) }
+fn ahead_of(queued: Option<Able>, served: &[Waiting]) -> usize
     requires ascending { AscendBy (λ w. w.turn) served.now }
     ensures within { result ≤ length served.now }
-    ensures ahead { IsAheadOf queue.now served.now result queued }
+    ensures ahead { IsAheadOf served.now result queued }
 {
     match queued {
-        Some(index) => place_after(served, queue[index].turn),
+        Some(able) => place_after(served, able.turn),
         None => served.len(),
     }
 }
 
 // One stands there in the queue.
-fn in_queue(queued: Option<usize>) -> Option<Standing>
-    ensures { result ≡ option_map Queued queued }
+fn in_queue(queued: Option<Able>) -> Option<Standing>
+    ensures { result ≡ option_map (λ able. Queued able.index) queued }
 {
     match queued {
-        Some(index) => Some(Standing::Queued(index)),
+        Some(able) => Some(Standing::Queued(able.index)),
         None => None,
     }
+}
+
+// One has a turn before this one.
+fn is_before(able: Option<Able>, turn: u128) -> bool
+    ensures { result ≡ is_sooner turn able }
+{
+    match able {
+        Some(able) => able.turn < turn,
+        None => false,
+    }
+}
+
+// Where the one stands that comes first of one of the queue and one of those served.
+fn sooner_of(queued: Option<Able>, served: Option<Able>) -> Option<Standing>
+    ensures { result ≡ sooner_of queued served }
+{
+    let Some(ahead) = served else {
+        return in_queue(queued);
+    };
+    if is_before(queued, ahead.turn) {
+        return in_queue(queued);
+    }
+    Some(Standing::Served(ahead.index))
 }
 
 // Where the flow stands that is served first at this minislot, of those that may be served. None of the queue before
@@ -70,15 +94,13 @@ fn first_of(
         (IsNextIn config.now items queue.now served.now start room.slots) }
     ensures lawful { IsLawful config.now }
 {
-    let queued = first_able(queue, first, tiers, config, start, room);
+    let queued = soonest(queue, first, tiers, config, start, room);
     if served.is_empty() {
         return in_queue(queued);
     }
-    let ahead = ahead_of(queue, queued, served);
-    if let Some(index) = first_able(&served[..ahead], 0, tiers, config, start, room) {
-        return Some(Standing::Served(index));
-    }
-    in_queue(queued)
+    let ahead = ahead_of(queued, served);
+    let passed = soonest(&served[..ahead], 0, tiers, config, start, room);
+    sooner_of(queued, passed)
 }
 
 // The one that stands there.
@@ -159,12 +181,18 @@ fn first_waiting(queue: &[Waiting], first: usize) -> usize
 
 // Grants one that waits, at this minislot, the most bytes that it may have of so many, and answers to whom they went.
 #[inline(always)]
-fn serve_one(waiting: &mut Waiting, tiers: &mut Vec<Tier>, start: u64, most: u64) -> Served
+fn serve_one(
+    waiting: &mut Waiting,
+    tiers: &mut Vec<Tier>,
+    quantum: u32,
+    start: u64,
+    most: u64,
+) -> Served
     requires begun { HasBegunBy start (limits_in tiers.old.items waiting.old) }
     requires most { most < 2 ^ 32 }
-    ensures { IsGranted tiers.old.items tiers.new.items waiting.old waiting.new start most result.sid result.bytes }
+    ensures { IsGranted quantum tiers.old.items tiers.new.items waiting.old waiting.new start most result.sid result.bytes }
 {
-    let bytes = waiting.serve(tiers, start, most);
+    let bytes = waiting.serve(tiers, quantum, start, most);
     Served {
         sid: waiting.sid(),
         bytes,
@@ -202,9 +230,10 @@ fn serve_short(
     ensures none { result ≡ None → (queue.new ≡ queue.old) × (tiers.new ≡ tiers.old) }
     ensures lawful { IsLawful config.now }
 {
-    let index = first_able(queue, 0, tiers, config, start, room)?;
+    let first = first_able(queue, 0, tiers, config, start, room)?;
+    let index = soonest_of(queue, first, tiers, config, start, room);
     let mut waiting = queue[index];
-    let granted = serve_one(&mut waiting, tiers, start, room.bytes);
+    let granted = serve_one(&mut waiting, tiers, config.quantum(), start, room.bytes);
     put_short(queue, index, waiting);
     Some(granted)
 }
@@ -237,7 +266,7 @@ fn serve_long(
 {
     let standing = first_of(queue, *first, served, tiers, config, start, room)?;
     let mut waiting = one_at(queue, served, standing);
-    let granted = serve_one(&mut waiting, tiers, start, room.bytes);
+    let granted = serve_one(&mut waiting, tiers, config.quantum(), start, room.bytes);
     put_served(queue, served, standing, waiting);
     *first = first_waiting(queue, *first);
     Some(granted)

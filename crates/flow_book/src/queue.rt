@@ -2,119 +2,23 @@
 
 ghost use Rattle.std.specs.Prelude.{◌==◌, nat_lt, position, true, false, ◌+◌, ◌^◌, insert};
 ghost use Rattle.std.specs.Prelude.{ℕ, ◌≡◌, ◌≢◌, ◌<◌, ◌≤◌, List, remove, slice_index_or, map, length, OnOk, OnErr, IfOk};
-ghost use Rattle.std.specs.Prelude.{IfSome, MatchOption, Option, Some, min, filter};
+ghost use Rattle.std.specs.Prelude.{Option, Some};
 ghost use Rattle.std.specs.List.{AllByRecursion, position_or_len};
 ghost use Rattle.minislots.specs.declared.config.Config.{Config};
-ghost use Rattle.minislots.specs.Config.{IsLawful};
 ghost use Rattle.flow_book.specs.declared.flow.Flow.{Flow};
 ghost use Rattle.flow_book.specs.Flows.{granted, outstanding};
-ghost use Rattle.flow_book.specs.Limits.{HasBegunBy, HaveOneMore, StaySettled, most_in};
-ghost use Rattle.flow_book.specs.Entry.{live, IsBook, IsRoom, IsTurn};
+ghost use Rattle.flow_book.specs.Entry.{live, is_plain, IsBook};
 ghost use Rattle.sched_calls.specs.Sids.{AscendBy, put_in};
 ghost use Rattle.flow_book.specs.Queue.{IsQueue, IsQueueAmong, IsMoved, AreSameBut, moved_up, moved_down};
-ghost use Rattle.flow_book.specs.Queue.{HasStartedPart, IsFirstAble, IsPassed};
-ghost use Rattle.flow_book.specs.Tiers.{IsSpent, limits_in};
 ghost use Rattle.flow_book.specs.declared.tiers.TheConstants.{NO_TIER as NONE};
-ghost use Rattle.flow_book.specs.Queue.{NoneWaitsBefore, HasPassed, StandsBehind, is_passed, still_waits};
+ghost use Rattle.flow_book.specs.Queue.{HasPassed, StandsBehind, is_passed, still_waits};
 
 use crate::bucket::Bucket;
-use crate::flow::{Flow, Room, SIDS, turn_after};
+use crate::flow::Flow;
 use crate::flows::Flows;
-use crate::limits::Limits;
-use crate::tiers::{NO_TIER, Tier};
-use minislots::Checked;
+use crate::tiers::NO_TIER;
+use crate::waiting::Waiting;
 use std::alloc::{AllocError, Global};
-
-// A flow that waits for bytes: its turn, the bytes that it waits for, its place among the flows, the number of its tier,
-// none where it has no peak rate, and what its maximum sustained rate leaves to it.
-#[derive(Clone, Copy)]
-pub(crate) struct Waiting {
-    pub(crate) turn: u128,
-    pub(crate) wants: u64,
-    pub(crate) place: u32,
-    pub(crate) tier: u32,
-    pub(crate) sustained: Bucket,
-}
-
-impl Waiting {
-    // The SID of the flow.
-    pub(crate) fn sid(&self) -> u16
-        ensures { (rank : ℕ) (last : Option ℕ) (sid : ℕ) → IsTurn rank last sid self.now.turn → result ≡ sid }
-    {
-        (self.turn % SIDS) as u16
-    }
-
-    // What its ceilings leave to it.
-    pub(crate) fn limits(&self, tiers: &[Tier]) -> Limits
-        ensures { result ≡ limits_in tiers.now self.now }
-    {
-        let tier = self.tier as usize;
-        let peak = if tier < tiers.len() {
-            tiers[tier].peak.again()
-        } else {
-            Bucket::unlimited()
-        };
-        Limits {
-            sustained: self.sustained.again(),
-            peak,
-        }
-    }
-
-    // Whether a grant of so many bytes that starts at this minislot keeps its ceilings.
-    fn has(&self, tiers: &[Tier], slot: u64, bytes: u32) -> bool
-        requires { HasBegunBy slot (limits_in tiers.now self.now) }
-        ensures { result ≡ (most_in (limits_in tiers.now self.now) slot bytes == bytes) }
-    {
-        let tier = self.tier as usize;
-        self.sustained.has(slot, bytes)
-            && (tier >= tiers.len() || tiers[tier].peak.has(slot, bytes))
-    }
-
-    // Takes the most bytes, up to the limit, that keep its ceilings in a grant that starts at this minislot, and answers
-    // how many they are.
-    #[inline(always)]
-    fn take_most(&mut self, tiers: &mut Vec<Tier>, slot: u64, limit: u32) -> u32
-        requires { HasBegunBy slot (limits_in tiers.old.items self.old) }
-        ensures same { self.new ≡ record self.old { sustained = self.new.sustained } }
-        ensures most { result ≡ most_in (limits_in tiers.old.items self.old) slot limit }
-        ensures taken { HaveOneMore (limits_in tiers.old.items self.old) (limits_in tiers.new.items self.new) slot result }
-        ensures settled { StaySettled (limits_in tiers.old.items self.old) (limits_in tiers.new.items self.new) slot result }
-        ensures spent { IsSpent tiers.old.items tiers.new.items self.old self.new }
-    {
-        let tier = self.tier as usize;
-        if tier >= tiers.len() {
-            return self.sustained.take_most(slot, limit);
-        }
-        let peak = &mut tiers[tier].peak;
-        let bytes = self.sustained.take_most(slot, peak.most(slot, limit));
-        peak.spend(slot, bytes);
-        bytes
-    }
-
-    // Grants the flow, from this minislot on, the most bytes that it may have of so many at most, and answers how many
-    // they are.
-    #[inline(always)]
-    pub(crate) fn serve(&mut self, tiers: &mut Vec<Tier>, start: u64, most: u64) -> u32
-        requires begun { HasBegunBy start (limits_in tiers.old.items self.old) }
-        requires most { most < 2 ^ 32 }
-        ensures bytes { result ≡ most_in (limits_in tiers.old.items self.old) start (min self.old.wants most) }
-        ensures wants { self.new.wants + result ≡ self.old.wants }
-        ensures place { self.new.place ≡ self.old.place }
-        ensures limits { HaveOneMore (limits_in tiers.old.items self.old) (limits_in tiers.new.items self.new) start result }
-        ensures settled { StaySettled (limits_in tiers.old.items self.old) (limits_in tiers.new.items self.new) start result }
-        ensures spent { IsSpent tiers.old.items tiers.new.items self.old self.new }
-        ensures turn { (rank : ℕ) (last : Option ℕ) (sid : ℕ)
-            → IsTurn rank last sid self.old.turn → IsTurn rank (Some start) sid self.new.turn }
-        ensures later { (rank : ℕ) (last : Option ℕ) (sid : ℕ) → IsTurn rank last sid self.old.turn
-            → IfSome last (λ m. m ≤ start) → self.old.turn ≤ self.new.turn }
-    {
-        let limit = self.wants.min(most) as u32;
-        let bytes = self.take_most(tiers, start, limit);
-        self.wants -= u64::from(bytes);
-        self.turn = turn_after(self.turn, start);
-        bytes
-    }
-}
 
 // The place in the queue of the first of a later turn, or its end.
 pub(crate) fn place_after(queue: &[Waiting], turn: u128) -> usize
@@ -158,39 +62,6 @@ pub(crate) fn queue_of(alloc: Global, flows: &Flows) -> Result<Vec<Waiting>, All
         }
     }
     Ok(queue)
-}
-
-// Where in a list of those that wait, of which none before the first place wants anything, the first stands that may be
-// served at this minislot.
-pub(crate) fn first_able(
-    queue: &[Waiting],
-    first: usize,
-    tiers: &[Tier],
-    config: &Checked,
-    start: u64,
-    room: Room,
-) -> Option<usize>
-    requires room { IsRoom config.now room }
-    requires passed { NoneWaitsBefore first queue.now }
-    requires started { (items : List Flow) × HasStartedPart config.now items tiers.now queue.now start }
-    ensures next { (items : List Flow) → HasStartedPart config.now items tiers.now queue.now start → MatchOption result
-        (AllByRecursion (IsPassed config.now start room.slots items) (filter still_waits queue.now))
-        (IsFirstAble config.now items queue.now start room.slots) }
-    ensures within { IfSome result (λ index. index < length queue.now) }
-    ensures lawful { IsLawful config.now }
-{
-    let quantum = u64::from(config.quantum());
-    for index in first..queue.len() {
-        let waiting = &queue[index];
-        let wanted = waiting.wants.min(quantum);
-        if wanted > 0 && wanted <= room.bytes && waiting.has(tiers, start, wanted as u32) {
-            return Some(index);
-        }
-        if room.bytes == 0 {
-            return None;
-        }
-    }
-    None
 }
 
 // Moves the one at this place in the queue, of a turn no earlier than before, behind those of turns no later.
@@ -309,18 +180,15 @@ pub(crate) fn waiting_of(flow: &Flow, place: usize) -> Waiting
     ensures wants { result.wants ≡ outstanding (live flow.now) }
     ensures place { result.place ≡ place }
     ensures sustained { result.sustained ≡ flow.now.limits.sustained }
-    ensures tier { (result.tier == NONE) ≡ (flow.now.limits.peak.per_slot == 0) }
+    ensures tier { (result.tier == NONE) ≡ is_plain flow.now }
 {
     let limits = &flow.limits;
+    let is_plain = limits.peak.is_unlimited() && limits.reserved.is_unlimited();
     Waiting {
         turn: flow.turn,
         wants: flow.outstanding(),
         place: place as u32,
-        tier: if limits.peak.is_unlimited() {
-            NO_TIER
-        } else {
-            0
-        },
+        tier: if is_plain { NO_TIER } else { 0 },
         sustained: limits.sustained.again(),
     }
 }

@@ -16,7 +16,7 @@ ghost use Rattle.flow_book.specs.Pending.{waiting_in, sid_at, number_at};
 
 use crate::flow::SIDS;
 use crate::flows::Flows;
-use crate::queue::Waiting;
+use crate::waiting::Waiting;
 use std::alloc::{AllocError, Global};
 
 // The first flow that waits and is not shown.

@@ -4,15 +4,15 @@ ghost use Rattle.std.specs.Prelude.{◌≡◌, ◌≤◌, ◌++◌, ◌∷◌, [
 ghost use Rattle.std.specs.List.{AllByRecursion};
 ghost use Rattle.minislots.specs.declared.config.Config.{Config};
 ghost use Rattle.flow_book.specs.declared.flow.Flow.{Flow};
-ghost use Rattle.flow_book.specs.declared.queue.Waiting.{Waiting};
+ghost use Rattle.flow_book.specs.declared.waiting.Waiting.{Waiting};
 ghost use Rattle.flow_book.specs.Entry.{live, IsBook};
 ghost use Rattle.flow_book.specs.Queue.{IsIn, IsQueue, IsQueueAmong, IsQueueIn, still_waits};
 ghost use Rattle.flow_book.specs.Taking.{CanBeTaken, IsTaken, AreMerged, AreApart};
 
 use crate::flow_list::FlowList;
 use crate::flows::Flows;
-use crate::queue::Waiting;
 use crate::tiers::Tier;
+use crate::waiting::Waiting;
 use std::alloc::AllocError;
 
 // Gives each flow that a MAP served the data grants that it has after it, and what is kept of it.
@@ -25,7 +25,12 @@ pub(crate) fn take_over(flows: &mut Flows, served: &[Waiting], tiers: &[Tier], a
     for waiting in served {
         let place = waiting.place as usize;
         let flow = flows.at_mut(place);
-        flow.take_over(waiting, tiers, FlowList::grants_at(after, &place));
+        flow.take_over(
+            waiting,
+            tiers,
+            FlowList::grants_at(after, &place),
+            FlowList::reserved_at(after, &place),
+        );
     }
 }
 

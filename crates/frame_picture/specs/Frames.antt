@@ -15,7 +15,7 @@ use Rattle.frame_picture.specs.declared.span.Place.{Place}
 abbrev pub is_unsolicited : FlowSpec → Bool
 is_unsolicited (Unsolicited size interval jitter grants) = true
 is_unsolicited (Polled interval jitter rate burst peak) = false
-is_unsolicited (BestEffort priority rate burst peak) = false
+is_unsolicited (BestEffort priority rate burst peak reserved reserved-burst) = false
 
 -- whether there is a life, of an unsolicited flow: no change makes a flow of another kind
 abbrev pub is_unsolicited_life : Option Life → Bool

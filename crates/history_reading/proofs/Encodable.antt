@@ -16,7 +16,7 @@ use Rattle.minislots.specs.declared.config.ConfigFault.{ConfigFault}
 use Rattle.minislots.specs.Config.{first_wrong}
 use Rattle.sched_calls.specs.Reply.{IsEncodable}
 use Rattle.sched_calls.specs.declared.reply.Reply.{Reply}
-use Rattle.sched_calls.specs.declared.reply.Reply.TheVariants.{Admitted, Changed, Removed, Taken, Noted, Reserved}
+use Rattle.sched_calls.specs.declared.reply.Reply.TheVariants.{Removed, Taken, Noted, Reserved}
 use Rattle.sched_calls.specs.declared.reply.Entry.{Entry}
 use Rattle.text_stream.specs.declared.fault.TextFault.{TextFault}
 use Rattle.text_stream.specs.declared.fault.TextFault.TheVariants.{Shape}

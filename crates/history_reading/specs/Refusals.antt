@@ -2,7 +2,7 @@
 use Rattle.std.specs.Prelude.{◌≡◌, ◌↔◌, ℕ, ◌==◌, List, [], ◌∷◌, ◌++◌, Option, Some, None, find}
 use Rattle.sched_calls.specs.declared.spec.FlowFault.{FlowFault}
 use Rattle.sched_calls.specs.declared.spec.FlowFault.TheVariants.{Size, IntervalNotWhole, IntervalNotFrames}
-use Rattle.sched_calls.specs.declared.spec.FlowFault.TheVariants.{IntervalNotInCycle, Priority, Burst, Grants}
+use Rattle.sched_calls.specs.declared.spec.FlowFault.TheVariants.{IntervalNotInCycle, Priority, Burst, Grants, Reserved}
 use Rattle.sched_calls.specs.declared.reply.Refusal.{Refusal}
 use Rattle.sched_calls.specs.declared.reply.Refusal.TheVariants.{BadSid, SidLive, BadFlow, FlowsFull, PeriodicFull}
 use Rattle.sched_calls.specs.declared.reply.Refusal.TheVariants.{NoPlace, NoFlow, NotAsking, BadReceiver, BadBytes}
@@ -13,7 +13,8 @@ use Rattle.sched_lines.specs.Line.{fault_number, refusal_number, refusal_value}
 
 -- the faults in a flow's parameters
 abbrev pub flow_faults : List FlowFault
-flow_faults = Size ∷ IntervalNotWhole ∷ IntervalNotFrames ∷ IntervalNotInCycle ∷ Priority ∷ Burst ∷ Grants ∷ []
+flow_faults =
+    Size ∷ IntervalNotWhole ∷ IntervalNotFrames ∷ IntervalNotInCycle ∷ Priority ∷ Burst ∷ Grants ∷ Reserved ∷ []
 
 -- the fault in a flow's parameters that has this number
 unfoldable pub fault_with : ℕ → Option FlowFault

@@ -78,15 +78,33 @@ pub a_polled_flow_without_a_peak : compact_text (flow_data (Polled 20000 2000 64
 unfolding flow_data digits serde_json_on_literals
 a_polled_flow_without_a_peak = refl
 
-pub a_flow_of_best_effort_with_a_peak : compact_text (flow_data (BestEffort 7 0 0 1))
+pub a_flow_of_best_effort_with_a_peak : compact_text (flow_data (BestEffort 7 0 0 1 0 0))
     ≡ codes "{\"burst\":0,\"kind\":\"best_effort\",\"peak\":1,\"priority\":7,\"rate\":0}"
 unfolding flow_data digits serde_json_on_literals
 a_flow_of_best_effort_with_a_peak = refl
 
-pub a_flow_of_best_effort_without_a_peak : compact_text (flow_data (BestEffort 7 0 0 0))
+pub a_flow_of_best_effort_without_a_peak : compact_text (flow_data (BestEffort 7 0 0 0 0 0))
     ≡ codes "{\"burst\":0,\"kind\":\"best_effort\",\"priority\":7,\"rate\":0}"
 unfolding flow_data digits serde_json_on_literals
 a_flow_of_best_effort_without_a_peak = refl
+
+-- a reserved rate and its burst stand behind the rate, each where it is above 0
+pub a_flow_of_best_effort_with_a_reserved_rate : compact_text (flow_data (BestEffort 7 0 0 0 64000 64))
+    ≡ codes "{\"burst\":0,\"kind\":\"best_effort\",\"priority\":7,\"rate\":0," ++
+    codes "\"reserved\":64000,\"reserved_burst\":64}"
+unfolding flow_data digits serde_json_on_literals
+a_flow_of_best_effort_with_a_reserved_rate = refl
+
+pub a_flow_of_best_effort_with_a_reserved_burst_alone : compact_text (flow_data (BestEffort 7 0 0 0 0 1))
+    ≡ codes "{\"burst\":0,\"kind\":\"best_effort\",\"priority\":7,\"rate\":0,\"reserved_burst\":1}"
+unfolding flow_data digits serde_json_on_literals
+a_flow_of_best_effort_with_a_reserved_burst_alone = refl
+
+pub a_flow_of_best_effort_with_a_peak_and_a_reserved_rate : compact_text (flow_data (BestEffort 7 0 0 1 4294967295 0))
+    ≡ codes "{\"burst\":0,\"kind\":\"best_effort\",\"peak\":1,\"priority\":7,\"rate\":0," ++
+    codes "\"reserved\":4294967295}"
+unfolding flow_data digits serde_json_on_literals
+a_flow_of_best_effort_with_a_peak_and_a_reserved_rate = refl
 
 -- a rest and a wake
 pub a_rest : compact_text (call_data (Rest 5)) ≡ codes "{\"call\":\"rest\",\"sid\":5}"

@@ -29,8 +29,8 @@ FlowFits (Unsolicited size interval jitter grants) = (size < 2 ^ 32) × (interva
     × (grants < 2 ^ 8)
 FlowFits (Polled interval jitter rate burst peak) = (interval < 2 ^ 32) × (jitter < 2 ^ 32) × (rate < 2 ^ 32)
     × (burst < 2 ^ 32) × (peak < 2 ^ 32)
-FlowFits (BestEffort priority rate burst peak) = (priority < 2 ^ 8) × (rate < 2 ^ 32) × (burst < 2 ^ 32)
-    × (peak < 2 ^ 32)
+FlowFits (BestEffort priority rate burst peak reserved reserved-burst) = (priority < 2 ^ 8) × (rate < 2 ^ 32)
+    × (burst < 2 ^ 32) × (peak < 2 ^ 32) × (reserved < 2 ^ 32) × (reserved-burst < 2 ^ 32)
 
 -- how much a request asks for fits its type
 abbrev pub AmountFits : Amount → Type 0

@@ -33,7 +33,8 @@ counts ns = array (items_of (map count ns))
 abbrev pub optional_member : ℕ → List ℕ → ℕ → Members → Members
 optional_member missing key n behind = if n == missing then behind else member key (count n) behind
 
--- a flow, by its kind: a peak rate stands only where it is a ceiling
+-- a flow, by its kind: a peak rate stands only where it is a ceiling, and a reserved rate and its burst each only where
+-- it is above 0
 unfoldable pub flow_data : FlowSpec → Data
 flow_data (Unsolicited size interval jitter grants) = object (
     member (codes "grants") (count grants) (member (codes "interval_us") (count interval) (
@@ -43,10 +44,12 @@ flow_data (Polled interval jitter rate burst peak) = object (
     member (codes "burst") (count burst) (member (codes "interval_us") (count interval) (
     member (codes "jitter_us") (count jitter) (member (codes "kind") (string (codes "polled")) (
     optional_member 0 (codes "peak") peak (member (codes "rate") (count rate) no_members))))))
-flow_data (BestEffort priority rate burst peak) = object (
+flow_data (BestEffort priority rate burst peak reserved reserved-burst) = object (
     member (codes "burst") (count burst) (member (codes "kind") (string (codes "best_effort")) (
     optional_member 0 (codes "peak") peak (
-    member (codes "priority") (count priority) (member (codes "rate") (count rate) no_members)))))
+    member (codes "priority") (count priority) (member (codes "rate") (count rate) (
+    optional_member 0 (codes "reserved") reserved (
+    optional_member 0 (codes "reserved_burst") reserved-burst no_members)))))))
 
 -- a request of this name, with its bytes or with the minislots that it has in their place
 abbrev pub request_data : List ℕ → ℕ → ℕ → Amount → ℕ → Data

@@ -274,11 +274,18 @@ const BURST: Member = ("burst", U32, MUST);
 
 const PEAK: Member = ("peak", U32, Missing::Number(0));
 
+const RESERVED: Member = ("reserved", U32, Missing::Number(0));
+
+const RESERVED_BURST: Member = ("reserved_burst", U32, Missing::Number(0));
+
 /// The forms of a flow.
 pub static FLOWS: [Form; 3] = [
     ("unsolicited", &[KIND, SIZE, INTERVAL, JITTER, GRANTS]),
     ("polled", &[KIND, INTERVAL, JITTER, RATE, BURST, PEAK]),
-    ("best_effort", &[KIND, PRIORITY, RATE, BURST, PEAK]),
+    (
+        "best_effort",
+        &[KIND, PRIORITY, RATE, BURST, PEAK, RESERVED, RESERVED_BURST],
+    ),
 ];
 
 /// The one form of an entry.

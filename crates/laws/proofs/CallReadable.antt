@@ -103,18 +103,27 @@ flow_readable (Polled interval jitter rate burst peak) fits = (
     ),
   ),
 )
-flow_readable (BestEffort priority rate burst peak) fits = (
+flow_readable (BestEffort priority rate burst peak reserved reserved-burst) fits = (
   sorted (always (codes "burst") (count burst) ∷ always (codes "kind") (string (codes "best_effort"))
       ∷ unless 0 (codes "peak") peak ∷ always (codes "priority") (count priority)
-      ∷ always (codes "rate") (count rate) ∷ []) refl,
+      ∷ always (codes "rate") (count rate) ∷ unless 0 (codes "reserved") reserved
+      ∷ unless 0 (codes "reserved_burst") reserved-burst ∷ []) refl,
   (
     refl,
     of_word burst fits.2,
     (
       refl,
       name (codes "best_effort") refl,
-      optional_readable 0 (codes "peak") peak _ refl (of_word peak fits.3)
-          (refl, of_byte priority fits.0, (refl, of_word rate fits.1, tt)),
+      optional_readable 0 (codes "peak") peak _ refl (of_word peak fits.3) (
+        refl,
+        of_byte priority fits.0,
+        (
+          refl,
+          of_word rate fits.1,
+          optional_readable 0 (codes "reserved") reserved _ refl (of_word reserved fits.4)
+              (optional_readable 0 (codes "reserved_burst") reserved-burst _ refl (of_word reserved-burst fits.5) tt),
+        ),
+      ),
     ),
   ),
 )

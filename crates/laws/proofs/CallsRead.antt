@@ -104,7 +104,10 @@ best_effort-fits d =
     bind _ _ (u8_at (codes "priority") d) _ (u8_at-below (codes "priority") d) (λ priority a.
     bind _ _ (u32_at (codes "rate") d) _ (u32_at-below (codes "rate") d) (λ rate b.
     bind _ _ (u32_at (codes "burst") d) _ (u32_at-below (codes "burst") d) (λ burst e.
-    bind _ _ (u32_or 0 (codes "peak") d) _ (u32_or-below (codes "peak") d) (λ peak f. (a, b, e, f)))))
+    bind _ _ (u32_or 0 (codes "peak") d) _ (u32_or-below (codes "peak") d) (λ peak f.
+    bind _ _ (u32_or 0 (codes "reserved") d) _ (u32_or-below (codes "reserved") d) (λ reserved g.
+    bind _ _ (u32_or 0 (codes "reserved_burst") d) _ (u32_or-below (codes "reserved_burst") d) (λ reserved-burst h.
+    (a, b, e, f, g, h)))))))
 
 flow-fits : (d : Data) → IfSome (flow_of d) FlowFits
 unfolding flow_of

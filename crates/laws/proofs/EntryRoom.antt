@@ -50,16 +50,34 @@ room-counts : (ns : List ℕ) → room (counts ns) ≡ 21 * length ns + 2
 unfolding counts
 room-counts ns = omega (arith, items_room-counts ns)
 
-room-flow : (spec : FlowSpec) → room (flow_data spec) ≤ 400
+room-flow : (spec : FlowSpec) → room (flow_data spec) ≤ 500
 unfolding flow_data
 room-flow (Unsolicited size interval jitter grants) = omega arith
 room-flow (Polled interval jitter rate burst peak) = elim (cases_Bool (peak == 0)) [
   | inl none ↦ rw none (omega arith)
   | inr stands ↦ rw stands (omega arith)
 ]
-room-flow (BestEffort priority rate burst peak) = elim (cases_Bool (peak == 0)) [
-  | inl none ↦ rw none (omega arith)
-  | inr stands ↦ rw stands (omega arith)
+room-flow (BestEffort priority rate burst peak reserved reserved-burst) = elim (cases_Bool (peak == 0)) [
+  | inl a ↦ elim (cases_Bool (reserved == 0)) [
+    | inl b ↦ elim (cases_Bool (reserved-burst == 0)) [
+      | inl d ↦ rw (a, b, d) (omega arith)
+      | inr d ↦ rw (a, b, d) (omega arith)
+    ]
+    | inr b ↦ elim (cases_Bool (reserved-burst == 0)) [
+      | inl d ↦ rw (a, b, d) (omega arith)
+      | inr d ↦ rw (a, b, d) (omega arith)
+    ]
+  ]
+  | inr a ↦ elim (cases_Bool (reserved == 0)) [
+    | inl b ↦ elim (cases_Bool (reserved-burst == 0)) [
+      | inl d ↦ rw (a, b, d) (omega arith)
+      | inr d ↦ rw (a, b, d) (omega arith)
+    ]
+    | inr b ↦ elim (cases_Bool (reserved-burst == 0)) [
+      | inl d ↦ rw (a, b, d) (omega arith)
+      | inr d ↦ rw (a, b, d) (omega arith)
+    ]
+  ]
 ]
 
 room-call : (call : Call) → room (call_data call) ≤ 1000

@@ -18,6 +18,7 @@ use Rattle.map_build.specs.Purpose.{element_of}
 use Rattle.map_build.specs.declared.purpose.Allocation.{Allocation}
 use Rattle.map_build.specs.Plan.{grants_to, flow_after, flows_after}
 use Rattle.map_build.specs.FrameMap.{head_of, null_element, pending_of, pending}
+use Rattle.map_build.proofs.FlowsAfter.{with_grants-is}
 use Rattle.map_build.proofs.SameSpots.{all-members}
 use Rattle.sched_calls.specs.declared.call.Call.{Call}
 use Rattle.sched_calls.specs.declared.call.Call.TheVariants as calls
@@ -99,7 +100,7 @@ module _ (c : Config) (h : List Entry) (e : Entry) (m : FrameMap) (same : e.repl
       ∙ grants_of_map-plan sid c (demand_after c h) (header_after c h) (ack_after c h) plan
       (plan-HasBytes c (demand_after c h) plan next.1)
 
-  grown-built : (f : LiveFlow) → grown_by c e f ≡ flow_after (next_after c h) plan f
+  grown-built : (f : LiveFlow) → grown_by c e f ≡ flow_after c (next_after c h) plan f
   grown-built f =
       let none : f.asked + 0 ≡ f.asked = omega arith in
       let batches = batches-built c f.sid e.call m f.batches f.asked (granted f) in
@@ -111,13 +112,13 @@ module _ (c : Config) (h : List Entry) (e : Entry) (m : FrameMap) (same : e.repl
         batches,
         none,
         reads f.sid,
-      ) refl
+      ) (sym (with_grants-is c (grants_to (next_after c h) f.sid plan) f))
 
   -- the flows after the MAP
-  flows-built : after ≡ flows_after (next_after c h) plan (flows_of c h)
+  flows-built : after ≡ flows_after c (next_after c h) plan (flows_of c h)
   flows-built =
       flows_of-grown c h e (λ sid. ap (turn_by sid e.call) same ∙ turn-built sid e.call m)
-      ∙ map-each (grown_by c e) (flow_after (next_after c h) plan) (flows_of c h) grown-built
+      ∙ map-each (grown_by c e) (flow_after c (next_after c h) plan) (flows_of c h) grown-built
 
   pub ack-built : m.ack ≡ ack_of c.pending (ack_after c h) after
   ack-built = ap (λ (n : FrameMap). n.ack) next.2 ∙ ap (ack_of c.pending (ack_after c h)) (sym flows-built)

@@ -45,9 +45,27 @@ depth-flow (Polled interval jitter rate burst peak) = elim (cases_Bool (peak == 
   | inl none ↦ rw none refl
   | inr stands ↦ rw stands refl
 ]
-depth-flow (BestEffort priority rate burst peak) = elim (cases_Bool (peak == 0)) [
-  | inl none ↦ rw none refl
-  | inr stands ↦ rw stands refl
+depth-flow (BestEffort priority rate burst peak reserved reserved-burst) = elim (cases_Bool (peak == 0)) [
+  | inl a ↦ elim (cases_Bool (reserved == 0)) [
+    | inl b ↦ elim (cases_Bool (reserved-burst == 0)) [
+      | inl d ↦ rw (a, b, d) refl
+      | inr d ↦ rw (a, b, d) refl
+    ]
+    | inr b ↦ elim (cases_Bool (reserved-burst == 0)) [
+      | inl d ↦ rw (a, b, d) refl
+      | inr d ↦ rw (a, b, d) refl
+    ]
+  ]
+  | inr a ↦ elim (cases_Bool (reserved == 0)) [
+    | inl b ↦ elim (cases_Bool (reserved-burst == 0)) [
+      | inl d ↦ rw (a, b, d) refl
+      | inr d ↦ rw (a, b, d) refl
+    ]
+    | inr b ↦ elim (cases_Bool (reserved-burst == 0)) [
+      | inl d ↦ rw (a, b, d) refl
+      | inr d ↦ rw (a, b, d) refl
+    ]
+  ]
 ]
 
 depth-call : (call : Call) → depth (call_data call) ≤ 2

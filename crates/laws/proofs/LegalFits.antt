@@ -140,7 +140,7 @@ module _ (c : Config) (lawful : IsLawful c) (config_fits : ConfigFits c) (h : Li
   admit-good sid (Polled interval jitter rate burst peak) reply none answers =
       let spec = Polled interval jitter rate burst peak in
       placed-good spec reply (places_of c spec lawful refl (passed-admit c h sid spec none).no_fault) answers
-  admit-good sid (BestEffort priority rate burst peak) reply none answers =
+  admit-good sid (BestEffort priority rate burst peak reserved reserved-burst) reply none answers =
       subst IsGood (sym answers) (record { fits = tt; short = tt })
 
   sums-good : (f : LiveFlow) (b : Bool) → f.asked ≤ most_bytes * length h → granted f ≤ f.asked

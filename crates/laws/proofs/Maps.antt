@@ -132,7 +132,7 @@ module _ (c : Config) (bounds : HasBounds c) (d : Demand) where
   bytes_fit : (plan : List Allocation) → EachAfter (Stands c d) [] plan
       → AllByRecursion (λ n. n < 2 ^ 32) (bytes_of_plan c d plan)
   bytes_fit plan each =
-      let tail = pending c (flows_after d.start plan d.flows) in (
+      let tail = pending c (flows_after c d.start plan d.flows) in (
         omega arith,
         all-append (λ n. n < 2 ^ 32) (map (bytes_in c) plan) (0 ∷ map (λ e. 0) tail) (bytes-plan [] plan each)
             (omega arith, bytes-none tail),
@@ -156,7 +156,7 @@ next_fits c h m lawful config_fits legal fits next =
       ack = omega (
         arith,
         ap (λ (m : FrameMap). m.ack) next.2,
-        ack-most c.pending (ack_after c h) (flows_after d.start next.0 d.flows),
+        ack-most c.pending (ack_after c h) (flows_after c d.start next.0 d.flows),
         ack_after-most c h legal,
         next_after-most c lawful h legal,
       );

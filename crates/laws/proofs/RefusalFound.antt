@@ -26,7 +26,7 @@ unfolding fault_with
 fault_number-found value fault is =
     let holds = subst (λ (o : Option FlowFault). IfSome o (λ f. ((fault_number f == value) ≡ true) × Unit {0})) is
     (find-holds (λ f. fault_number f == value) (λ f. Unit {0}) flow_faults
-    (tt, (tt, (tt, (tt, (tt, (tt, (tt, tt)))))))) in
+    (tt, (tt, (tt, (tt, (tt, (tt, (tt, (tt, tt))))))))) in
     eqb-true (fault_number fault) value holds.0
 
 -- the refusal has this value, or none

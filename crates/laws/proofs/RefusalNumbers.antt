@@ -3,7 +3,7 @@ use Rattle.std.proofs.Common.{◌≡◌, ◌<◌, ◌^◌, ℕ, ◌==◌, false,
 use Rattle.std.specs.Prelude.{find}
 use Rattle.sched_calls.specs.declared.spec.FlowFault.{FlowFault}
 use Rattle.sched_calls.specs.declared.spec.FlowFault.TheVariants.{Size, IntervalNotWhole, IntervalNotFrames}
-use Rattle.sched_calls.specs.declared.spec.FlowFault.TheVariants.{IntervalNotInCycle, Priority, Burst, Grants}
+use Rattle.sched_calls.specs.declared.spec.FlowFault.TheVariants.{IntervalNotInCycle, Priority, Burst, Grants, Reserved}
 use Rattle.sched_calls.specs.declared.reply.Refusal.{Refusal}
 use Rattle.sched_calls.specs.declared.reply.Refusal.TheVariants.{BadSid, SidLive, BadFlow, FlowsFull, PeriodicFull}
 use Rattle.sched_calls.specs.declared.reply.Refusal.TheVariants.{NoPlace, NoFlow, NotAsking, BadReceiver, BadBytes}
@@ -33,6 +33,7 @@ refusal_with-number (BadFlow IntervalNotInCycle) = refl
 refusal_with-number (BadFlow Priority) = refl
 refusal_with-number (BadFlow Burst) = refl
 refusal_with-number (BadFlow Grants) = refl
+refusal_with-number (BadFlow Reserved) = refl
 refusal_with-number FlowsFull = refl
 refusal_with-number PeriodicFull = refl
 refusal_with-number NoPlace = refl

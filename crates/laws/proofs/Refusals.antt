@@ -5,7 +5,7 @@ use Rattle.std.specs.Option.{option_or, option_map}
 use Rattle.minislots.specs.declared.config.Config.{Config}
 use Rattle.sched_calls.specs.declared.spec.FlowFault.{FlowFault}
 use Rattle.sched_calls.specs.declared.spec.FlowFault.TheVariants.{Size, IntervalNotWhole, IntervalNotFrames}
-use Rattle.sched_calls.specs.declared.spec.FlowFault.TheVariants.{IntervalNotInCycle, Priority, Burst, Grants}
+use Rattle.sched_calls.specs.declared.spec.FlowFault.TheVariants.{IntervalNotInCycle, Priority, Burst, Grants, Reserved}
 use Rattle.sched_calls.specs.FlowSpec.{is_periodic, is_kind_of, grants_of, first_fault}
 use Rattle.sched_calls.specs.declared.call.TheConstants.{MAX_RESERVES}
 use Rattle.sched_calls.specs.declared.call.Call.{Call}
@@ -53,6 +53,7 @@ fault_fits IntervalNotInCycle = lit< tt
 fault_fits Priority = lit< tt
 fault_fits Burst = lit< tt
 fault_fits Grants = lit< tt
+fault_fits Reserved = lit< tt
 
 faulty : (fault : Option FlowFault) (rest : Option Refusal) (refusal : Refusal)
     → option_or (option_map BadFlow fault) rest ≡ Some refusal → (rest ≡ Some refusal → RefusalFits refusal)

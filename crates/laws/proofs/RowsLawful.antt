@@ -48,7 +48,7 @@ two_maps_are_of_types = (
     record {
       seat = omega arith;
       ticket = omega arith;
-      call = (omega arith, (omega arith, omega arith, omega arith, omega arith));
+      call = (omega arith, (omega arith, omega arith, omega arith, omega arith, omega arith, omega arith));
     },
     (
       record {

@@ -45,7 +45,8 @@ all_alike Less x = refl
 all_alike Equal x = refl
 all_alike Greater x = refl
 
-found-laid : (key : List ℕ) (ps : List Part) → get_member key (laid ps) ≡ found_in key ps
+-- a member is found by its place
+pub found-laid : (key : List ℕ) (ps : List Part) → get_member key (laid ps) ≡ found_in key ps
 found-laid key [] = refl
 found-laid key (always title d ∷ ps) =
     ap (λ found. match_ordering (slice_cmp nat_cmp key title) found (Some d) found) (found-laid key ps)

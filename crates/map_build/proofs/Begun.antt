@@ -63,7 +63,7 @@ HasPlan-begun c d old new lawful begun puts are =
             (omega arith) begun.started);
       };
       after = record {
-        flows_now = flows_are ∙ sym (flows_after-nil new.start d.flows);
+        flows_now = flows_are ∙ sym (flows_after-nil new.overlay.config new.start d.flows);
         ends = omega (arith, at, ap (λ k. k.req_slots) same);
         grants = omega (arith, puts.grants, begun.grants);
         met = record {

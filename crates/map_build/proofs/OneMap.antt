@@ -9,7 +9,7 @@ use Rattle.std.proofs.lemmas.List.Sums.{sum_by-append, sum_by-cons}
 use Rattle.minislots.specs.declared.config.Config.{Config}
 use Rattle.minislots.specs.Bursts.{HasBursts}
 use Rattle.minislots.specs.Units.{slots_for}
-use Rattle.sched_calls.specs.FlowSpec.{rank_of as flow_rank}
+use Rattle.flow_book.specs.Reserved.{rank_at}
 use Rattle.flow_book.specs.Flows.{LiveFlow}
 use Rattle.flow_book.specs.Choice.{IsAmount, IsNext, NoneEligible, last_start, is_earlier, is_as_early}
 use Rattle.flow_book.proofs.Order.{all-contains}
@@ -42,7 +42,7 @@ one_next c flows start room f g nf ng = elim (all-contains _ flows g nf.first ng
   | inl e ↦ sym e
   | inr before ↦ elim (all-contains _ flows f ng.first nf.live nf.eligible) [
     | inl e ↦ e
-    | inr after ↦ absurd (one_way (flow_rank f.spec) (flow_rank g.spec) (last_start f.grants)
+    | inr after ↦ absurd (one_way (rank_at c start f) (rank_at c start g) (last_start f.grants)
         (last_start g.grants) f.sid g.sid before after)
   ]
 ]
@@ -140,7 +140,7 @@ module _ (c : Config) (d : Demand) (bursts : HasBursts c.bursts) (apart : BeginA
   not_none before offset slots purpose Reserved (place, o, first, long, is) none = none place o first.may
   not_none before offset slots purpose Requested (sid, bytes, grant, is) none = elim none [
     | inl full ↦ omega (arith, full, grant.0)
-    | inr nobody ↦ next_is_eligible c (flows_after d.start before d.flows) (d.start + offset)
+    | inr nobody ↦ next_is_eligible c (flows_after c d.start before d.flows) (d.start + offset)
         (room_at c d.spots offset) grant.1 grant.3 nobody
   ]
   not_none before offset slots purpose Left is none = none
@@ -161,7 +161,7 @@ module _ (c : Config) (d : Demand) (bursts : HasBursts c.bursts) (apart : BeginA
         is ∙ ap (λ n. Offer n o.usage) same ∙ ap (λ p. Offer place' p.usage) one ∙ sym is',
       )
   one_of_class before offset slots slots' purpose purpose' Requested (sid, bytes, g, is) (sid', bytes', h, is') =
-      let one = one_next c (flows_after d.start before d.flows) (d.start + offset) (room_at c d.spots offset) g.1 h.1
+      let one = one_next c (flows_after c d.start before d.flows) (d.start + offset) (room_at c d.spots offset) g.1 h.1
       g.3 h.3 in
       let amount = one_amount c h.1 (d.start + offset) (room_at c d.spots offset) bytes bytes' (rw one at g.4) h.4 in
       let same : sid ≡ sid' = sym g.2 ∙ ap (λ f. f.sid) one ∙ h.2 in

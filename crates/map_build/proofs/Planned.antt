@@ -22,14 +22,14 @@ use Rattle.sched_calls.specs.declared.opportunity.Opportunity.{Opportunity}
 use Rattle.map_build.specs.declared.purpose.Allocation.{Allocation}
 use Rattle.map_build.specs.Purpose.{element_of, allocation_of}
 use Rattle.map_build.specs.Opportunities.{HaveElementSids}
-use Rattle.map_build.specs.Plan.{Demand, demand_at, end_of, flows_after, IsPlan}
+use Rattle.map_build.specs.Plan.{Demand, demand_at, end_of, grants_to, flow_after, flows_after, IsPlan}
 use Rattle.map_build.specs.FrameMap.{null_element, pending_of, pending, elements_of, bytes_of_plan, map_with}
 use Rattle.map_build.specs.FrameMap.{AreMet, IsLawfulMap, IsLawfulFrame}
 use Rattle.map_build.specs.Spots.{IsInFrame, AreInFrame, IsFlowSid, HaveFlowSids, AreOfChannel}
 use Rattle.map_build.specs.Draft.{Ends}
 use Rattle.map_build.specs.Walk.{IsFilled, HasPlan, AreTaken}
 use Rattle.map_build.proofs.Counts.{length-plan}
-use Rattle.map_build.proofs.FlowsAfter.{flows_after-nil}
+use Rattle.map_build.proofs.FlowsAfter.{flows_after-nil, with_grants-sid}
 use Rattle.map_build.proofs.OneMap.{BeginApart}
 use Rattle.map_build.proofs.Standings.{spot-within, spots-apart}
 use Rattle.map_build.proofs.WellFormed.{AreEncodable, HaveSids, HaveSpotSids, elements_of-encodable}
@@ -53,8 +53,9 @@ module _ (c : Config) (d : Demand) (sends : d.settles ≡ false) (plan : List Al
     quiet = λ on. absurd (cc);
   }
 
-  flows-are : filled.overlay.flows ≡ flows_after d.start plan d.flows
-  flows-are = has.after.flows_now ∙ ap (λ s. flows_after s plan d.flows) has.starts
+  flows-are : filled.overlay.flows ≡ flows_after c d.start plan d.flows
+  flows-are = has.after.flows_now ∙ ap (λ k. flows_after k filled.start plan d.flows) has.config
+      ∙ ap (λ s. flows_after c s plan d.flows) has.starts
 
   elements-are : ended.elements.items ≡ elements_of c d plan
   elements-are = ends.elements ∙ rw (has.config, flows-are, has.elements, sends) refl
@@ -78,7 +79,7 @@ module _ (c : Config) (d : Demand) (sends : d.settles ≡ false) (plan : List Al
 
 -- a draft with the plan of nothing has the flows
 pub begun-flows : (c : Config) (d : Demand) (draft : Draft) → HasPlan c d [] draft → draft.overlay.flows ≡ d.flows
-begun-flows c d draft has = has.after.flows_now ∙ flows_after-nil draft.start d.flows
+begun-flows c d draft has = has.after.flows_now ∙ flows_after-nil draft.overlay.config draft.start d.flows
 
 -- so it has the plan of nothing for its own
 pub begun-here : (c : Config) (d : Demand) (draft : Draft) → d.settles ≡ false → HasPlan c d [] draft →
@@ -129,20 +130,24 @@ spot-sids-short [] all = tt
 spot-sids-short (s ∷ spots) all = (omega (arith, all.0.1), spot-sids-short spots all.1)
 
 -- with data grants more the flows ascend, and their SIDs are short
-module _ (start : ℕ) (plan : List Allocation) where
-  above-after : (n : ℕ) (flows : List LiveFlow) → AllByRecursion (λ f. n < f.sid) flows →
-      AllByRecursion (λ f. n < f.sid) (flows_after start plan flows)
-  above-after n [] all = tt
-  above-after n (f ∷ flows) all = (all.0, above-after n flows all.1)
+module _ (c : Config) (start : ℕ) (plan : List Allocation) where
+  same-sid : (f : LiveFlow) → (flow_after c start plan f).sid ≡ f.sid
+  same-sid f = with_grants-sid c (grants_to start f.sid plan) f
 
-  ascend-after : (flows : List LiveFlow) → Ascend flows → Ascend (flows_after start plan flows)
+  above-after : (n : ℕ) (flows : List LiveFlow) → AllByRecursion (λ f. n < f.sid) flows →
+      AllByRecursion (λ f. n < f.sid) (flows_after c start plan flows)
+  above-after n [] all = tt
+  above-after n (f ∷ flows) all = (rw (same-sid f) all.0, above-after n flows all.1)
+
+  ascend-after : (flows : List LiveFlow) → Ascend flows → Ascend (flows_after c start plan flows)
   ascend-after [] ascend = tt
-  ascend-after (f ∷ flows) ascend = (above-after f.sid flows ascend.0, ascend-after flows ascend.1)
+  ascend-after (f ∷ flows) ascend =
+      (rw (same-sid f) (above-after f.sid flows ascend.0), ascend-after flows ascend.1)
 
   small-after : (flows : List LiveFlow) → AllByRecursion (λ f. IsFlowSid f.sid) flows →
-      AreSmall (flows_after start plan flows)
+      AreSmall (flows_after c start plan flows)
   small-after [] all = tt
-  small-after (f ∷ flows) all = (omega (arith, all.0.1), small-after flows all.1)
+  small-after (f ∷ flows) all = (rw (same-sid f) (omega (arith, all.0.1)), small-after flows all.1)
 
 few-pending : (c : Config) (flows : List LiveFlow) → Ascend flows → AreSmall flows →
     length (pending c flows) ≤ c.pending
@@ -162,10 +167,10 @@ few-elements c d plan bursts pendings places channel few is = omega (
   arith,
   pendings,
   length-plan c d bursts plan few pendings is.each,
-  length-append (map (element_of c) plan) (null_element c ∷ pending c (flows_after d.start plan d.flows)),
+  length-append (map (element_of c) plan) (null_element c ∷ pending c (flows_after c d.start plan d.flows)),
   length-map plan (element_of c),
-  few-pending c (flows_after d.start plan d.flows) (ascend-after d.start plan d.flows channel.ascend)
-      (small-after d.start plan d.flows channel.sids),
+  few-pending c (flows_after c d.start plan d.flows) (ascend-after c d.start plan d.flows channel.ascend)
+      (small-after c d.start plan d.flows channel.sids),
 )
 
 plan-cond : (c : Config) (d : Demand) (plan : List Allocation) (quiet : Bool) → d.settles ≡ quiet →

@@ -44,9 +44,10 @@ module _ (c : Config) (d : Demand) (plan : List Allocation) (old new : Draft) (a
   -- the book knows of the plan with it
   after-push : IsAfter d.flows (plan ++ a ∷ []) new
   after-push = record {
-    flows_now = takes.knows.flows ∙ ap (flows_after old.start (a ∷ [])) has.after.flows_now
-        ∙ sym (flows_after-push old.start plan a d.flows)
-        ∙ ap (λ s. flows_after s (plan ++ a ∷ []) d.flows) (sym takes.knows.start);
+    flows_now = takes.knows.flows ∙ ap (flows_after old.overlay.config old.start (a ∷ [])) has.after.flows_now
+        ∙ sym (flows_after-push old.overlay.config old.start plan a d.flows)
+        ∙ ap (λ s. flows_after old.overlay.config s (plan ++ a ∷ []) d.flows) (sym takes.knows.start)
+        ∙ ap (λ k. flows_after k new.start (plan ++ a ∷ []) d.flows) (sym takes.knows.config);
     ends = omega (
       arith,
       takes.offset,
@@ -87,7 +88,7 @@ module _ (c : Config) (d : Demand) (plan : List Allocation) (old new : Draft) (a
       ap (λ k. k.pending) has.config,
     );
     started = rw (takes.knows.flows, takes.knows.start, takes.offset)
-        (started-after old.start (old.start + old.offset) (old.start + (old.offset + a.slots)) a old.overlay.flows
+        (started-after old.overlay.config old.start (old.start + old.offset) (old.start + (old.offset + a.slots)) a old.overlay.flows
         (omega arith) (omega (arith, here)) has.ready.started);
   }
 

@@ -34,8 +34,8 @@ quiet-map c d header progress m settles (plan, is, made) =
 
 module _ (c : Config) (d : Demand) (settles : d.settles ≡ true) (quiet ended : Draft)
     (is : IsQuiet c d.flows d.start quiet) (ends : Ends quiet ended) where
-  none-granted : quiet.overlay.flows ≡ flows_after d.start [] d.flows
-  none-granted = is.flows_are ∙ sym (flows_after-nil d.start d.flows)
+  none-granted : quiet.overlay.flows ≡ flows_after c d.start [] d.flows
+  none-granted = is.flows_are ∙ sym (flows_after-nil c d.start d.flows)
 
   elements-are : ended.elements.items ≡ elements_of c d []
   elements-are = ends.elements ∙ rw (is.config, none-granted, is.elements, settles) refl

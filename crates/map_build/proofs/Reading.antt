@@ -175,7 +175,7 @@ module _ (c : Config) (d : Demand) (some : AllByRecursion (λ o. 0 < o.slots) d.
   pub met_in-plan : (plan : List Allocation) → IsPlan c d plan
       → met_in c d.spots d.waiting (elements_of c d plan) ≡ met_by_plan plan
   met_in-plan plan is =
-      let flows : List LiveFlow = flows_after d.start plan d.flows in
+      let flows : List LiveFlow = flows_after c d.start plan d.flows in
       met_over-each_plan [] plan (null_element c ∷ pending c flows) is.each
       ∙ ap (λ met. met_over c d.spots d.waiting met (map (λ (e : Element). e.offset) (pending c flows))) (end-none plan)
       ∙ pending-none plan (filter (is_shown c.pending flows) flows)

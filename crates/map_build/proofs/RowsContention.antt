@@ -28,7 +28,7 @@ high_first = base_map 840 800 (element 0x3fff 1 0 ∷ element 21 6 4 ∷ element
 -- 544 bytes fill the room of 36 minislots
 amount_of_high : IsAmount base high 844 36 544
 amount_of_high = record {
-  allowed = MayGrant-unlimited base high 844 36 544 refl refl (lit< tt) (lit≤ tt) (lit≤ tt) (lit≤ tt);
+  allowed = MayGrant-unlimited base high 844 36 544 refl refl refl (lit< tt) (lit≤ tt) (lit≤ tt) (lit≤ tt);
   greatest = λ more may. may.asked;
 }
 
@@ -69,7 +69,7 @@ both_pending =
 -- of 1000 bytes 544 fit the room
 amount_of_lower_sid : IsAmount base lower_sid 844 36 544
 amount_of_lower_sid = record {
-  allowed = MayGrant-unlimited base lower_sid 844 36 544 refl refl (lit< tt) (lit≤ tt) (lit≤ tt) (lit≤ tt);
+  allowed = MayGrant-unlimited base lower_sid 844 36 544 refl refl refl (lit< tt) (lit≤ tt) (lit≤ tt) (lit≤ tt);
   greatest = λ more may. omega (arith, may.taken.fits);
 }
 

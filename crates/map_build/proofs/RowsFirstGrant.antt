@@ -20,19 +20,21 @@ use Rattle.map_build.proofs.RowsContention.{filled_by}
 abbrev pub fresh : ℕ → ℕ → ℕ → LiveFlow
 fresh burst asked heard = record {
   sid = 17;
-  spec = BestEffort 3 64000 burst 0;
+  spec = BestEffort 3 64000 burst 0 0 0;
   asked = asked;
   batches = one_request asked heard;
   grants = [];
   earlier = 0;
   peak_earlier = 0;
+  reserved = [];
+  reserved_earlier = 0;
 }
 
 -- it may take up to 544 bytes at once, where these are no more than its burst
 may_take : (burst asked heard start bytes : ℕ) → 544 ≤ burst → bytes ≤ 544
     → MayTake base (fresh burst asked heard) start 36 bytes
 may_take burst asked heard start bytes enough few = record {
-  ceiling = KeepsWith-peakless base (fresh burst asked heard) start bytes refl
+  ceiling = KeepsWith-peakless base (fresh burst asked heard) start bytes refl refl
       (KeepsCeiling-first base 64000 burst (record { start = start; bytes = bytes }) (omega arith));
   fits = omega arith;
 }

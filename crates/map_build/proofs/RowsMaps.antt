@@ -66,12 +66,14 @@ the_bytes_of_a_frame_without_flows = refl
 abbrev pub small : LiveFlow
 small = record {
   sid = 17;
-  spec = BestEffort 3 0 0 0;
+  spec = BestEffort 3 0 0 0 0 0;
   asked = 100;
   batches = one_request 100 801;
   grants = [];
   earlier = 0;
   peak_earlier = 0;
+  reserved = [];
+  reserved_earlier = 0;
 }
 
 -- a frame with its grant of nine minislots
@@ -100,11 +102,11 @@ a_frame_with_one_grant = (
           refl,
           record {
             live = (0, lit< tt, refl);
-            eligible = IsEligible-unlimited base small 844 36 refl refl refl (lit< tt) (lit≤ tt);
+            eligible = IsEligible-unlimited base small 844 36 refl refl refl refl (lit< tt) (lit≤ tt);
             first = ((λ e. inl refl), tt);
           },
           record {
-            allowed = MayGrant-unlimited base small 844 36 100 refl refl (lit< tt) (lit≤ tt) (lit≤ tt) (lit≤ tt);
+            allowed = MayGrant-unlimited base small 844 36 100 refl refl refl (lit< tt) (lit≤ tt) (lit≤ tt) (lit≤ tt);
             greatest = λ more may. may.asked;
           },
           refl,

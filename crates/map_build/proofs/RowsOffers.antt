@@ -219,11 +219,11 @@ an_opportunity_goes_before_data = (
             refl,
             record {
               live = (0, lit< tt, refl);
-              eligible = IsEligible-unlimited base small 852 28 refl refl refl (lit< tt) (lit≤ tt);
+              eligible = IsEligible-unlimited base small 852 28 refl refl refl refl (lit< tt) (lit≤ tt);
               first = ((λ e. inl refl), tt);
             },
             record {
-              allowed = MayGrant-unlimited base small 852 28 100 refl refl (lit< tt) (lit≤ tt) (lit≤ tt) (lit≤ tt);
+              allowed = MayGrant-unlimited base small 852 28 100 refl refl refl (lit< tt) (lit≤ tt) (lit≤ tt) (lit≤ tt);
               greatest = λ more may. may.asked;
             },
             refl,

@@ -1,5 +1,5 @@
 -- Worked examples of lawful MAPs of a flow at its peak rate.
-use Rattle.std.proofs.Common.{◌≡◌, ℕ, zero, suc, ◌+◌, ◌<◌, ◌≤◌, List, [], ◌∷◌, length, map, refl, inl, inr, lit<, lit≤}
+use Rattle.std.proofs.Common.{◌≡◌, ℕ, zero, suc, ◌<◌, ◌≤◌, List, [], ◌∷◌, length, map, refl, inl, inr, lit<, lit≤}
 use Rattle.std.proofs.Common.{min, arith}
 use Rattle.map_codec.specs.Element.{word_of}
 use Rattle.sched_calls.specs.declared.spec.FlowSpec.TheVariants.{BestEffort}
@@ -27,7 +27,7 @@ use Rattle.map_build.proofs.RowsCeiling.{second_grant, waiting_map}
 
 -- a flow without a ceiling but with a peak rate of 64000 bits in a second that asked 3000 bytes, with these grants
 abbrev pub under_peak : List Grant → LiveFlow
-under_peak grants = record (under_ceiling grants) { spec = BestEffort 3 0 0 64000 }
+under_peak grants = record (under_ceiling grants) { spec = BestEffort 3 0 0 64000 0 0 }
 
 -- its first grant, and its first two
 abbrev pub one : List Grant
@@ -65,6 +65,7 @@ may_take_first bytes few = record {
   ceiling = record {
     sustained = λ limited. absurd (omega arith);
     peak = kept_first 844 bytes few;
+    reserved = λ under. absurd (cc);
   };
   fits = omega arith;
 }
@@ -74,6 +75,7 @@ may_take_second bytes few = record {
   ceiling = record {
     sustained = λ limited. absurd (omega arith);
     peak = kept_second bytes few;
+    reserved = λ under. absurd (cc);
   };
   fits = omega arith;
 }
@@ -81,7 +83,7 @@ may_take_second bytes few = record {
 -- and the quantum in the third
 may_take_third : MayTake base (under_peak two) 924 36 64
 may_take_third = record {
-  ceiling = record { sustained = λ limited. absurd (omega arith); peak = kept_third };
+  ceiling = record { sustained = λ limited. absurd (omega arith); peak = kept_third; reserved = λ under. absurd (cc) };
   fits = lit≤ tt;
 }
 

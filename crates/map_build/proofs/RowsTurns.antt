@@ -23,24 +23,28 @@ use Rattle.map_build.proofs.RowsContention.{filled_by}
 abbrev pub lower : List Grant → LiveFlow
 lower grants = record {
   sid = 20;
-  spec = BestEffort 3 0 0 0;
+  spec = BestEffort 3 0 0 0 0 0;
   asked = 1000;
   batches = one_request 1000 801;
   grants = grants;
   earlier = 0;
   peak_earlier = 0;
+  reserved = [];
+  reserved_earlier = 0;
 }
 
 -- a flow of the next SID that is the same otherwise
 abbrev pub higher : List Grant → LiveFlow
 higher grants = record {
   sid = 21;
-  spec = BestEffort 3 0 0 0;
+  spec = BestEffort 3 0 0 0 0 0;
   asked = 1000;
   batches = one_request 1000 801;
   grants = grants;
   earlier = 0;
   peak_earlier = 0;
+  reserved = [];
+  reserved_earlier = 0;
 }
 
 -- a grant of 544 bytes at this minislot
@@ -51,14 +55,14 @@ grant_at start = record { start = start; bytes = 544 } ∷ []
 the_other_is_next : IsNext base (lower (grant_at 844) ∷ higher [] ∷ []) 884 36 (higher [])
 the_other_is_next = record {
   live = (1, lit< tt, refl);
-  eligible = IsEligible-unlimited base (higher []) 884 36 refl refl refl (lit< tt) (lit≤ tt);
+  eligible = IsEligible-unlimited base (higher []) 884 36 refl refl refl refl (lit< tt) (lit≤ tt);
   first = ((λ e. inr refl), ((λ e. inl refl), tt));
 }
 
 -- it gets what fits
 amount_of_the_other : IsAmount base (higher []) 884 36 544
 amount_of_the_other = record {
-  allowed = MayGrant-unlimited base (higher []) 884 36 544 refl refl (lit< tt) (lit≤ tt) (lit≤ tt) (lit≤ tt);
+  allowed = MayGrant-unlimited base (higher []) 884 36 544 refl refl refl (lit< tt) (lit≤ tt) (lit≤ tt) (lit≤ tt);
   greatest = λ more may. omega (arith, may.taken.fits);
 }
 
@@ -100,14 +104,14 @@ the_words_of_the_second_turn = refl
 the_earlier_is_next : IsNext base (lower (grant_at 844) ∷ higher (grant_at 884) ∷ []) 924 36 (lower (grant_at 844))
 the_earlier_is_next = record {
   live = (0, lit< tt, refl);
-  eligible = IsEligible-unlimited base (lower (grant_at 844)) 924 36 refl refl refl (lit< tt) (lit≤ tt);
+  eligible = IsEligible-unlimited base (lower (grant_at 844)) 924 36 refl refl refl refl (lit< tt) (lit≤ tt);
   first = ((λ e. inl refl), ((λ e. inr refl), tt));
 }
 
 -- it gets the 456 bytes that are left of its request
 amount_of_the_earlier : IsAmount base (lower (grant_at 844)) 924 36 456
 amount_of_the_earlier = record {
-  allowed = MayGrant-unlimited base (lower (grant_at 844)) 924 36 456 refl refl (lit< tt) (lit≤ tt) (lit≤ tt) (lit≤ tt);
+  allowed = MayGrant-unlimited base (lower (grant_at 844)) 924 36 456 refl refl refl (lit< tt) (lit≤ tt) (lit≤ tt) (lit≤ tt);
   greatest = λ more may. may.asked;
 }
 

@@ -88,7 +88,7 @@ module _ (c : Config) (d : Demand) (others : List Spot) (there : AreAmong d.spot
     is.0,
     is.1,
     is.2,
-    subst (λ r. IsNext c (flows_after d.start before d.flows) (d.start + offset) r is.1) (same-room offset) is.3,
+    subst (λ r. IsNext c (flows_after c d.start before d.flows) (d.start + offset) r is.1) (same-room offset) is.3,
     subst (λ r. IsAmount c is.1 (d.start + offset) r bytes) (same-room offset) is.4,
     is.5,
   )
@@ -100,7 +100,7 @@ module _ (c : Config) (d : Demand) (others : List Spot) (there : AreAmong d.spot
   same-none before offset Reserved none = subst (λ r. NoneToMeet d.waiting before r) (same-room offset) none
   same-none before offset Requested none = elim none [
     | inl full ↦ inl full
-    | inr nobody ↦ inr (subst (λ r. NoneEligible c (flows_after d.start before d.flows) (d.start + offset) r)
+    | inr nobody ↦ inr (subst (λ r. NoneEligible c (flows_after c d.start before d.flows) (d.start + offset) r)
         (same-room offset) nobody)
   ]
   same-none before offset Left none = none

@@ -5,7 +5,7 @@ use Rattle.std.proofs.Common.{refl, sym, ap, subst, ◌∙◌, arith}
 use Rattle.std.specs.List.{slice_get}
 use Rattle.std.proofs.lemmas.List.{length-set}
 use Rattle.minislots.specs.Units.{slots_for}
-use Rattle.flow_book.specs.Flows.{with_grant}
+use Rattle.flow_book.specs.Reserved.{with_grant}
 use Rattle.flow_book.specs.Book.{changed}
 use Rattle.periodic.specs.declared.placement.Spot.{Spot}
 use Rattle.map_build.specs.declared.draft.Draft.{Draft}
@@ -25,7 +25,7 @@ Knows-nothing : (a : Allocation) (d : Draft) → grants_in (a ∷ []) ≡ 0 →
 Knows-nothing a d grants none nowhere = record {
   config = refl;
   before = refl;
-  flows = sym (flows_after-none d.start a d.overlay.flows none);
+  flows = sym (flows_after-none d.overlay.config d.start a d.overlay.flows none);
   grants = omega (arith, grants);
   marks = refl;
   met = λ place is. inl is;
@@ -85,7 +85,7 @@ Knows-offer place o old new lt marks book grants start =
     record {
       config = ap (λ b. b.config) book;
       before = ap (λ b. b.before) book;
-      flows = ap (λ b. b.flows) book ∙ sym (flows_after-none old.start a old.overlay.flows (λ other. refl));
+      flows = ap (λ b. b.flows) book ∙ sym (flows_after-none old.overlay.config old.start a old.overlay.flows (λ other. refl));
       grants = omega (arith, grants);
       marks = ap (λ (met : List Bool). length met) marks ∙ length-set old.met place true;
       met = λ other is. elim (set-old old.met place other (rw marks at is)) [
@@ -102,7 +102,7 @@ Knows-offer place o old new lt marks book grants start =
 -- a draft whose overlay has a data grant more knows of it
 pub Knows-grant : (sid bytes : ℕ) (old new : Draft) → new.overlay.config ≡ old.overlay.config →
     new.overlay.before ≡ old.overlay.before →
-    new.overlay.flows ≡ changed sid (with_grant (record { start = old.start + old.offset; bytes = bytes })) old.overlay.flows →
+    new.overlay.flows ≡ changed sid (with_grant old.overlay.config (record { start = old.start + old.offset; bytes = bytes })) old.overlay.flows →
     new.grants ≡ old.grants + 1 → new.met ≡ old.met → new.start ≡ old.start →
     Knows (grant_here old sid bytes) old new
 Knows-grant sid bytes old new config before flows grants marks start =
@@ -111,7 +111,7 @@ Knows-grant sid bytes old new config before flows grants marks start =
     record {
       config = config;
       before = before;
-      flows = flows ∙ sym (flows_after-grant old.start sid old.offset a.slots bytes old.overlay.flows);
+      flows = flows ∙ sym (flows_after-grant old.overlay.config old.start sid old.offset a.slots bytes old.overlay.flows);
       grants = omega (arith, grants, one);
       marks = ap (λ (met : List Bool). length met) marks;
       met = λ place is. inl (rw marks at is);

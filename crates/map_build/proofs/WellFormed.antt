@@ -25,7 +25,8 @@ use Rattle.map_build.specs.declared.purpose.Purpose.{Purpose}
 use Rattle.map_build.specs.declared.purpose.Purpose.TheVariants.{Poll, UnsolicitedGrant, Offer, DataGrant, Idle}
 use Rattle.map_build.specs.Purpose.{is_open, kind_of, element_of, sid_for}
 use Rattle.map_build.specs.Opportunities.{HaveElementSids}
-use Rattle.map_build.specs.Plan.{Demand, end_of, flows_after, Stands, IsOfClass}
+use Rattle.map_build.specs.Plan.{Demand, end_of, grants_to, flows_after, Stands, IsOfClass}
+use Rattle.map_build.proofs.FlowsAfter.{with_grants-sid}
 use Rattle.map_build.specs.UsageCodes.{short_iuc, long_iuc, data_iuc}
 use Rattle.map_build.specs.FrameMap.{pending_of, request_region, quiet_element, head_of, null_element, elements_of}
 
@@ -118,10 +119,11 @@ sid_of_live flows f sids live =
     All-contains (λ (g : LiveFlow). g.sid < 2 ^ 14) flows f (All-from_recursion _ flows sids) live
 
 -- the flows after some grants have the same SIDs
-sids_after : (start : ℕ) (plan : List Allocation) (flows : List LiveFlow) → HaveSids flows →
-    HaveSids (flows_after start plan flows)
-sids_after start plan [] sids = tt
-sids_after start plan (f ∷ flows) sids = (sids.0, sids_after start plan flows sids.1)
+sids_after : (c : Config) (start : ℕ) (plan : List Allocation) (flows : List LiveFlow) → HaveSids flows →
+    HaveSids (flows_after c start plan flows)
+sids_after c start plan [] sids = tt
+sids_after c start plan (f ∷ flows) sids =
+    (rw (with_grants-sid c (grants_to start f.sid plan) f) sids.0, sids_after c start plan flows sids.1)
 
 -- the SID of an opportunity that waits is in range
 waiting-sid : (waiting : List Opportunity) (place : ℕ) (o : Opportunity) → HaveElementSids waiting →
@@ -143,7 +145,7 @@ module _ (c : Config) (d : Demand) (sids : HaveSids d.flows) (places : HaveSpotS
       All-contains (λ (s : Spot). s.sid < 2 ^ 14) d.spots _ (All-from_recursion _ d.spots places) stands
   kind_of-sid before offset slots (DataGrant sid bytes) stands =
       rw (← stands.2)
-      (sid_of_live (flows_after d.start before d.flows) stands.1 (sids_after d.start before d.flows sids)
+      (sid_of_live (flows_after c d.start before d.flows) stands.1 (sids_after c d.start before d.flows sids)
       stands.3.live)
   kind_of-sid before offset slots Idle stands =
       cond_both (is_open c slots) 16383 0 (λ sid. sid < 2 ^ 14) (λ on. omega arith) (λ on. omega arith)
@@ -221,10 +223,10 @@ pub elements_of-encodable : (c : Config) (d : Demand) (plan : List Allocation) �
     EachAfter (Stands c d) [] plan → end_of c plan ≤ c.frame → AreEncodable (elements_of c d plan)
 elements_of-encodable c d plan below sids places stations each within =
     let head : MayLead (head_of c d) = head-leads c d in
-    let all : List LiveFlow = flows_after d.start plan d.flows in
+    let all : List LiveFlow = flows_after c d.start plan d.flows in
     let waiting : List LiveFlow = filter (is_shown c.pending all) all in
     let sids_waiting : HaveSids waiting =
-    all-filter (λ (g : LiveFlow). g.sid < 2 ^ 14) (is_shown c.pending all) all (sids_after d.start plan d.flows sids) in
+    all-filter (λ (g : LiveFlow). g.sid < 2 ^ 14) (is_shown c.pending all) all (sids_after c d.start plan d.flows sids) in
     let tail : List Element = null_element c ∷ map (pending_of c) waiting in
     let null_in_range : IsInRange (null_element c) = record { sid = omega arith; iuc = omega arith; offset = below } in
     let climbs : Climbs 0 (map (element_of c) plan ++ tail) =

@@ -46,12 +46,12 @@ pending c flows = map (pending_of c) (filter (is_shown c.pending flows) flows)
 -- the elements of the MAP with this plan
 abbrev pub elements_of : Config → Demand → List Allocation → List Element
 elements_of c d plan =
-    head_of c d ∷ (map (element_of c) plan ++ null_element c ∷ pending c (flows_after d.start plan d.flows))
+    head_of c d ∷ (map (element_of c) plan ++ null_element c ∷ pending c (flows_after c d.start plan d.flows))
 
 -- the byte counts of the MAP with this plan
 abbrev pub bytes_of_plan : Config → Demand → List Allocation → List ℕ
 bytes_of_plan c d plan =
-    0 ∷ (map (bytes_in c) plan ++ 0 ∷ map (λ e. 0) (pending c (flows_after d.start plan d.flows)))
+    0 ∷ (map (bytes_in c) plan ++ 0 ∷ map (λ e. 0) (pending c (flows_after c d.start plan d.flows)))
 
 -- the MAP of a frame with this header and these elements and byte counts
 abbrev pub map_with : Config → Header → ℕ → ℕ → List Element → List ℕ → FrameMap
@@ -76,7 +76,7 @@ map_with c header start ack elements bytes = record {
 -- the MAP with this plan, where all receivers have handed in what they heard before the progress
 abbrev pub map_of : Config → Demand → Header → ℕ → List Allocation → FrameMap
 map_of c d header progress plan =
-    map_with c header d.start (ack_of c.pending progress (flows_after d.start plan d.flows))
+    map_with c header d.start (ack_of c.pending progress (flows_after c d.start plan d.flows))
     (elements_of c d plan) (bytes_of_plan c d plan)
 
 -- The MAP is lawful for a frame that has this to serve, with this header and least progress
@@ -94,5 +94,5 @@ pub record IsLawfulFrame (c : Config) (d : Demand) (header : Header) (progress :
   pub is_plan : IsPlan c d plan
   pub map : p.map ≡ map_of c d header progress plan
   pub before : p.overlay.before ≡ d.flows
-  pub flows : p.overlay.flows ≡ flows_after d.start plan d.flows
+  pub flows : p.overlay.flows ≡ flows_after c d.start plan d.flows
   pub met : AreMet plan p.met

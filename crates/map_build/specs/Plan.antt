@@ -1,13 +1,14 @@
 -- How a frame is filled behind its request region: polls and unsolicited grants at their places, and in between
 -- opportunities that were reserved, data grants to the flow that is next, or an idle.
 use Rattle.std.specs.Prelude.{◌≡◌, ℕ, ◌+◌, ◌-◌, ◌<◌, ◌≤◌, min, nat_le, ◌⊎◌, Bool, true, false}
-use Rattle.std.specs.Prelude.{List, [], ◌∷◌, ◌++◌, map, length, sum_by, count_by, filter_map, Contains}
+use Rattle.std.specs.Prelude.{List, [], ◌∷◌, map, length, sum_by, count_by, filter_map, Contains}
 use Rattle.std.specs.Prelude.{Option, None, Some, if◌then◌else◌}
 use Rattle.std.specs.List.{AllByRecursion, slice_get}
 use Rattle.minislots.specs.declared.config.Config.{Config}
 use Rattle.minislots.specs.Units.{slots_for}
 use Rattle.flow_book.specs.declared.flow.Grant.{Grant}
 use Rattle.flow_book.specs.Flows.{LiveFlow}
+use Rattle.flow_book.specs.Reserved.{with_grant}
 use Rattle.flow_book.specs.Choice.{NoneEligible, IsNext, IsAmount}
 use Rattle.periodic.specs.declared.placement.Spot.{Spot}
 use Rattle.map_build.specs.declared.TheConstants.{MAX_DATA_GRANTS, MAX_GRANTS_AND_PENDING}
@@ -55,13 +56,18 @@ end_of c plan = c.req_slots + sum_by (λ a. a.slots) plan
 abbrev pub grants_to : ℕ → ℕ → List Allocation → List Grant
 grants_to start sid plan = filter_map (λ a. grant_to start sid a.purpose a.offset) plan
 
+-- a flow with these grants more, one after the other: whether one is a reserved grant depends on those before it
+abbrev pub with_grants : Config → List Grant → LiveFlow → LiveFlow
+with_grants c [] f = f
+with_grants c (g ∷ grants) f = with_grants c grants (with_grant c g f)
+
 -- the flow after these allocations of the frame
-abbrev pub flow_after : ℕ → List Allocation → LiveFlow → LiveFlow
-flow_after start plan f = record f { grants = f.grants ++ grants_to start f.sid plan }
+abbrev pub flow_after : Config → ℕ → List Allocation → LiveFlow → LiveFlow
+flow_after c start plan f = with_grants c (grants_to start f.sid plan) f
 
 -- the live flows after these allocations of the frame
-abbrev pub flows_after : ℕ → List Allocation → List LiveFlow → List LiveFlow
-flows_after start plan flows = map (flow_after start plan) flows
+abbrev pub flows_after : Config → ℕ → List Allocation → List LiveFlow → List LiveFlow
+flows_after c start plan flows = map (flow_after c start plan) flows
 
 -- the first minislot from this one on at which a spot begins, or the end of the frame
 abbrev pub next_stop : Config → List Spot → ℕ → ℕ
@@ -104,7 +110,7 @@ abbrev pub NoneOf : Config → Demand → List Allocation → ℕ → Class → 
 NoneOf c d before offset Placed = 0 < room_at c d.spots offset
 NoneOf c d before offset Reserved = NoneToMeet d.waiting before (room_at c d.spots offset)
 NoneOf c d before offset Requested = (most_grants c d.waiting ≤ grants_in before)
-    ⊎ NoneEligible c (flows_after d.start before d.flows) (d.start + offset) (room_at c d.spots offset)
+    ⊎ NoneEligible c (flows_after c d.start before d.flows) (d.start + offset) (room_at c d.spots offset)
 NoneOf c d before offset Left = ⊥
 
 -- an allocation of so many minislots for this purpose is the one of its class here, where these stand before
@@ -116,7 +122,7 @@ IsOfClass c d before offset slots (Offer place usage) =
     IsFirstToMeet d.waiting before (room_at c d.spots offset) place (record { usage = usage; slots = slots })
 IsOfClass c d before offset slots (DataGrant sid bytes) = (grants_in before < most_grants c d.waiting)
     × (f : LiveFlow) × (f.sid ≡ sid)
-    × IsNext c (flows_after d.start before d.flows) (d.start + offset) (room_at c d.spots offset) f
+    × IsNext c (flows_after c d.start before d.flows) (d.start + offset) (room_at c d.spots offset) f
     × IsAmount c f (d.start + offset) (room_at c d.spots offset) bytes × (slots ≡ slots_for c bytes)
 IsOfClass c d before offset slots Idle = slots ≡ room_at c d.spots offset
 

@@ -33,7 +33,7 @@ pub record IsWellBegun (waiting : List Opportunity) (d : Draft) : Type 0 where
 pub record Knows (a : Allocation) (old new : Draft) : Type 0 where
   pub config : new.overlay.config ≡ old.overlay.config
   pub before : new.overlay.before ≡ old.overlay.before
-  pub flows : new.overlay.flows ≡ flows_after old.start (a ∷ []) old.overlay.flows
+  pub flows : new.overlay.flows ≡ flows_after old.overlay.config old.start (a ∷ []) old.overlay.flows
   pub grants : new.grants ≡ old.grants + grants_in (a ∷ [])
   pub marks : length new.met ≡ length old.met
   pub met : (place : ℕ) → slice_get new.met place ≡ Some true
@@ -101,7 +101,7 @@ ServesNext waiting room (Some grant) old new = Serves waiting room grant.allocat
 
 -- the draft is where this plan ends, and its book has the plan's grants
 pub record IsAfter (flows : List LiveFlow) (plan : List Allocation) (d : Draft) : Type 0 where
-  pub flows_now : d.overlay.flows ≡ flows_after d.start plan flows
+  pub flows_now : d.overlay.flows ≡ flows_after d.overlay.config d.start plan flows
   pub ends : d.offset ≡ end_of d.overlay.config plan
   pub grants : d.grants ≡ grants_in plan
   pub met : AreMet plan d.met

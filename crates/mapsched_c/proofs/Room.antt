@@ -103,7 +103,7 @@ module _ (c : Config) (conf : IsLawful c) where
       admitted_room h sid (Unsolicited size interval jitter grants) reply passed refl is
   answer_room h (Admit sid (Polled interval jitter rate burst peak)) reply legal passed is =
       admitted_room h sid (Polled interval jitter rate burst peak) reply passed refl is
-  answer_room h (Admit sid (BestEffort priority rate burst peak)) reply legal passed e = rw e tt
+  answer_room h (Admit sid (BestEffort priority rate burst peak reserved reserved-burst)) reply legal passed e = rw e tt
   answer_room h (Remove sid) reply legal passed e = rw e tt
   answer_room h (Ask receiver sid amount heard) reply legal passed e = rw e tt
   answer_room h (Heard receiver upto) reply legal passed e = rw e tt

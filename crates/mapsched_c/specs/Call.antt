@@ -24,7 +24,7 @@ use Rattle.mapsched_c.specs.declared.call.usage.TheConstants.{INITIAL, STATION, 
 abbrev pub flow_of : PlainCall → Option FlowSpec
 flow_of c = if c.flow == UNSOLICITED then Some (Unsolicited c.size c.interval_us c.jitter_us c.grants)
     else if c.flow == POLLED then Some (Polled c.interval_us c.jitter_us c.rate c.burst c.peak)
-    else if c.flow == BEST_EFFORT then Some (BestEffort c.priority c.rate c.burst c.peak)
+    else if c.flow == BEST_EFFORT then Some (BestEffort c.priority c.rate c.burst c.peak c.reserved c.reserved_burst)
     else None
 
 -- what the opportunity of these numbers is used for, where there is such a usage
@@ -88,6 +88,8 @@ nothing_called = record {
   data_end = 0;
   has_slots = 0;
   peak = 0;
+  reserved = 0;
+  reserved_burst = 0;
 }
 
 -- the numbers of a flow
@@ -107,12 +109,14 @@ plain_flow (Polled interval jitter rate burst peak) = record nothing_called {
   burst = burst;
   peak = peak;
 }
-plain_flow (BestEffort priority rate burst peak) = record nothing_called {
+plain_flow (BestEffort priority rate burst peak reserved reserved-burst) = record nothing_called {
   flow = BEST_EFFORT;
   priority = priority;
   rate = rate;
   burst = burst;
   peak = peak;
+  reserved = reserved;
+  reserved_burst = reserved-burst;
 }
 
 -- the numbers of what a request asks for

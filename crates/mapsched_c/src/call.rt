@@ -123,6 +123,10 @@ pub struct PlainCall {
     pub has_slots: u8,
     /// The peak rate of a flow that asks, in bits per second.
     pub peak: u32,
+    /// The minimum reserved rate of a best effort flow, in bits per second.
+    pub reserved: u32,
+    /// The burst of this reservation, in bytes.
+    pub reserved_burst: u32,
 }
 
 // A call of which every number is 0.
@@ -144,6 +148,8 @@ const NOTHING: PlainCall = PlainCall {
     data_end: 0,
     has_slots: 0,
     peak: 0,
+    reserved: 0,
+    reserved_burst: 0,
 };
 
 impl PlainCall {
@@ -170,6 +176,8 @@ impl PlainCall {
                 rate: self.rate,
                 burst: self.burst,
                 peak: self.peak,
+                reserved: self.reserved,
+                reserved_burst: self.reserved_burst,
             }),
             _ => None,
         }
@@ -299,8 +307,16 @@ impl PlainCall {
     }
 
     // The numbers of a best effort flow.
-    fn of_best_effort(priority: u8, rate: u32, burst: u32, peak: u32) -> PlainCall
-        ensures { result ≡ plain_flow (FlowSpec.BestEffort priority rate burst peak) }
+    fn of_best_effort(
+        priority: u8,
+        rate: u32,
+        burst: u32,
+        peak: u32,
+        reserved: u32,
+        reserved_burst: u32,
+    ) -> PlainCall
+        ensures { result ≡
+            plain_flow (FlowSpec.BestEffort priority rate burst peak reserved reserved_burst) }
     {
         PlainCall {
             flow: flow::BEST_EFFORT,
@@ -308,6 +324,8 @@ impl PlainCall {
             rate,
             burst,
             peak,
+            reserved,
+            reserved_burst,
             ..NOTHING
         }
     }
@@ -335,7 +353,9 @@ impl PlainCall {
                 rate,
                 burst,
                 peak,
-            } => PlainCall::of_best_effort(priority, rate, burst, peak),
+                reserved,
+                reserved_burst,
+            } => PlainCall::of_best_effort(priority, rate, burst, peak, reserved, reserved_burst),
         }
     }
 

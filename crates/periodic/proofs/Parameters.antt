@@ -111,4 +111,4 @@ places_of c (Polled interval jitter rate burst peak) lawful periodic none =
       grants_positive = omega arith;
       grants_most = omega arith;
     }
-places_of c (BestEffort priority rate burst peak) lawful periodic none = absurd (cc)
+places_of c (BestEffort priority rate burst peak reserved reserved-burst) lawful periodic none = absurd (cc)

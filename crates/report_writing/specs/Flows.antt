@@ -13,13 +13,13 @@ use Rattle.report_writing.specs.Tables.{replaced_column}
 unfoldable pub kind_title : FlowSpec → List ℕ
 kind_title (Unsolicited size interval jitter grants) = codes " unsol "
 kind_title (Polled interval jitter rate burst peak) = codes " polled"
-kind_title (BestEffort priority rate burst peak) = codes " best " ++ decimal priority
+kind_title (BestEffort priority rate burst peak reserved reserved-burst) = codes " best " ++ decimal priority
 
 -- the ceiling of a flow's rate, where it has one: 0 is none
 abbrev pub ceiling_of : FlowSpec → Option ℕ
 ceiling_of (Unsolicited size interval jitter grants) = None
 ceiling_of (Polled interval jitter rate burst peak) = if rate == 0 then None else Some rate
-ceiling_of (BestEffort priority rate burst peak) = if rate == 0 then None else Some rate
+ceiling_of (BestEffort priority rate burst peak reserved reserved-burst) = if rate == 0 then None else Some rate
 
 -- the bits a second that a life asked, was granted, and may be granted at most
 unfoldable pub life_rates : ℕ → Bool → LifeNumbers → List ℕ

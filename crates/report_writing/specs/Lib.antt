@@ -1,9 +1,11 @@
 pub mod Cells
 pub mod Gathered
+pub mod Reserved
 pub mod Report
 pub mod Columns
 pub mod Tables
 pub mod Flows
+pub mod ReservedTable
 pub mod Text
 pub mod Samples
 pub mod RankMetrics

@@ -1,5 +1,6 @@
 -- The metrics of each life of a flow.
-use Rattle.std.specs.Prelude.{ℕ, ◌+◌, List, [], ◌∷◌, ◌++◌, codes, Option, None, Some}
+use Rattle.std.specs.Prelude.{ℕ, ◌+◌, if◌then◌else◌, List, [], ◌∷◌, ◌++◌, codes, Option, None, Some}
+use Rattle.std.specs.List.{list_any}
 use Rattle.sched_report.specs.declared.life.LifeNumbers.{LifeNumbers}
 use Rattle.report_writing.specs.declared.metrics.sample.Measure.TheVariants.{Bytes, Seconds, Pieces}
 use Rattle.report_writing.specs.declared.metrics.sample.Whose.TheVariants.{Rank, Life}
@@ -7,9 +8,10 @@ use Rattle.report_writing.specs.declared.metrics.life.LifeCount.{LifeCount}
 use Rattle.report_writing.specs.declared.metrics.life.LifeCount.TheVariants.{Asked, Granted, Outstanding, Requests}
 use Rattle.report_writing.specs.declared.metrics.life.LifeCount.TheVariants.{Served, Waiting, Dropped, Replaced}
 use Rattle.report_writing.specs.declared.metrics.life.LifeMetric.{LifeMetric}
-use Rattle.report_writing.specs.declared.metrics.life.LifeMetric.TheVariants.{Info, Start, End, Count, Delay}
+use Rattle.report_writing.specs.declared.metrics.life.LifeMetric.TheVariants.{Info, Start, End, Count, Under, Delay}
 use Rattle.report_writing.specs.Report.{kind_name, rank_of}
-use Rattle.report_writing.specs.Samples.{heading, label, labels_of, count_sample, time_sample}
+use Rattle.report_writing.specs.Reserved.{has_reservation, under_of}
+use Rattle.report_writing.specs.Samples.{heading, label, labels_of, count_sample, count_sample_or_none, time_sample}
 use Rattle.report_writing.specs.Samples.{delay_samples}
 
 -- the name of the samples of a count
@@ -57,6 +59,9 @@ life_samples ticks End place n =
     time_sample ticks (codes "mapsched_flow_end_seconds") (labels_of (Life place n.sid)) n.to
 life_samples ticks (Count count) place n =
     count_sample (life_count_name count) (labels_of (Life place n.sid)) (life_count count n)
+life_samples ticks Under place n =
+    count_sample_or_none (codes "mapsched_flow_under_reservation_frames_total") (labels_of (Life place n.sid))
+    (under_of n)
 life_samples ticks Delay place n =
     delay_samples ticks (codes "mapsched_flow_delay_seconds") (labels_of (Life place n.sid))
     n.sums.delays.greatest n.sums.delays.least n.middle n.p99
@@ -114,6 +119,15 @@ life_lost_metrics ticks lives =
     (codes "Requests that waited when another superseded them.")
     ++ lives_samples ticks (Count Replaced) lives))
 
+-- at how many starts of MAPs they waited under their minimum reserved rates, where one has such a rate
+unfoldable pub life_under_metrics : ℕ → List LifeNumbers → List ℕ
+life_under_metrics ticks lives =
+    if list_any has_reservation lives then
+    heading (codes "mapsched_flow_under_reservation_frames") (codes "counter") Pieces
+    (codes "Frames at whose start the flow waited under its minimum reserved rate.")
+    ++ lives_samples ticks Under lives
+    else []
+
 -- how long those took that were served
 unfoldable pub life_delay_metrics : ℕ → List LifeNumbers → List ℕ
 life_delay_metrics ticks lives =
@@ -125,4 +139,4 @@ life_delay_metrics ticks lives =
 unfoldable pub lives_metrics : ℕ → List LifeNumbers → List ℕ
 lives_metrics ticks lives =
     life_span_metrics ticks lives ++ (life_byte_metrics ticks lives ++ (life_request_metrics ticks lives
-    ++ (life_lost_metrics ticks lives ++ life_delay_metrics ticks lives)))
+    ++ (life_lost_metrics ticks lives ++ (life_under_metrics ticks lives ++ life_delay_metrics ticks lives))))

@@ -20,18 +20,19 @@ use Rattle.sched_report.specs.Totals.{totals_of}
 use Rattle.history_writing.specs.Json.{count}
 use Rattle.report_writing.specs.Cells.{delay_data, maybe_data, with_given}
 use Rattle.report_writing.specs.Gathered.{AreLivesTold}
+use Rattle.report_writing.specs.Reserved.{under_of}
 
 -- the name of a kind of flow
 abbrev pub kind_name : FlowSpec → List ℕ
 kind_name (Unsolicited size interval jitter grants) = codes "unsolicited"
 kind_name (Polled interval jitter rate burst peak) = codes "polled"
-kind_name (BestEffort priority rate burst peak) = codes "best_effort"
+kind_name (BestEffort priority rate burst peak reserved reserved-burst) = codes "best_effort"
 
 -- the rank of a flow that asks: that of polled flows, or the priority of a best effort one
 abbrev pub rank_of : FlowSpec → Option ℕ
 rank_of (Unsolicited size interval jitter grants) = None
 rank_of (Polled interval jitter rate burst peak) = Some POLLED
-rank_of (BestEffort priority rate burst peak) = Some priority
+rank_of (BestEffort priority rate burst peak reserved reserved-burst) = Some priority
 
 -- a number that is told in some reports alone
 abbrev pub told_if : Bool → ℕ → Option ℕ
@@ -45,7 +46,8 @@ told_above_0 n = told_if (nat_lt 0 n) n
 abbrev pub tells_replaced : Totals → Bool
 tells_replaced t = nat_lt 0 t.replaces
 
--- a life of a flow, with its replaced requests or without
+-- a life of a flow, with its replaced requests or without, and where it has a minimum reserved rate with how often it
+-- waited under it
 unfoldable pub life_data : Bool → LifeNumbers → Data
 life_data replaced n = object (
     member (codes "asked") (count n.sums.asked) (member (codes "asks") (count n.sums.asks) (
@@ -55,7 +57,8 @@ life_data replaced n = object (
     member (codes "outstanding") (count n.outstanding) (with_given (codes "priority") n.priority (
     with_given (codes "replaced") (told_if replaced n.sums.replaced) (
     member (codes "served") (count n.sums.delays.served) (member (codes "sid") (count n.sid) (
-    member (codes "to") (count n.to) (member (codes "waiting") (count n.waiting) no_members))))))))))))))
+    member (codes "to") (count n.to) (with_given (codes "under") (under_of n) (
+    member (codes "waiting") (count n.waiting) no_members)))))))))))))))
 
 -- the name of polled flows' rank, or else a priority
 abbrev pub rank_name : ℕ → Data

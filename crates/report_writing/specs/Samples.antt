@@ -63,6 +63,11 @@ sample_front name labels = name ++ (codes "{" ++ (labels ++ codes "} "))
 unfoldable pub count_sample : List ℕ → List ℕ → ℕ → List ℕ
 count_sample name labels n = sample_front name labels ++ (decimal n ++ codes "\n")
 
+-- it, where there is such a number
+abbrev pub count_sample_or_none : List ℕ → List ℕ → Option ℕ → List ℕ
+count_sample_or_none name labels None = []
+count_sample_or_none name labels (Some n) = count_sample name labels n
+
 -- the time of so many minislots with labels
 unfoldable pub time_sample : ℕ → List ℕ → List ℕ → ℕ → List ℕ
 time_sample ticks name labels minislots = sample_front name labels ++ (seconds_text ticks minislots ++ codes "\n")

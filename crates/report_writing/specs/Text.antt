@@ -12,12 +12,15 @@ use Rattle.report_writing.specs.Gathered.{AreLivesTold}
 use Rattle.report_writing.specs.Report.{tells_replaced}
 use Rattle.report_writing.specs.Tables.{head_text, uses_text, refused_text, ranks_text}
 use Rattle.report_writing.specs.Flows.{AreOrdered, flows_text}
+use Rattle.report_writing.specs.ReservedTable.{reserved_text}
 
--- the tables of these numbers, where a minislot has so many ticks: of all lives or of those that asked most
-unfoldable pub tables_text : ℕ → Bool → Totals → List ℕ → List RankTold → List LifeNumbers → List ℕ
-tables_text ticks all t refused ranks ordered =
+-- the tables of these numbers, where a minislot has so many ticks and a frame so many minislots: of all lives or of
+-- those that asked most
+unfoldable pub tables_text : ℕ → ℕ → Bool → Totals → List ℕ → List RankTold → List LifeNumbers → List ℕ
+tables_text ticks frame all t refused ranks ordered =
     head_text ticks t ++ (uses_text t.opens t.slots t.calls ++ (refused_text refused
-    ++ (ranks_text ticks (tells_replaced t) ranks ++ flows_text ticks (tells_replaced t) all ordered)))
+    ++ (ranks_text ticks (tells_replaced t) ranks ++ (flows_text ticks (tells_replaced t) all ordered
+    ++ reserved_text frame all ordered))))
 
 -- The text is the tables of the report on a history, with all lives of flows or with those that asked most
 pub record IsReportTables (all : Bool) (c : Config) (h : List Entry) (text : List ℕ) : Type 0 where
@@ -29,4 +32,4 @@ pub record IsReportTables (all : Bool) (c : Config) (h : List Entry) (text : Lis
   pub are_lives : AreLivesTold c h lives
   pub ordered : List LifeNumbers
   pub are_ordered : AreOrdered all lives ordered
-  pub text_is : text ≡ tables_text c.ticks all (totals_of c h) refused ranks ordered
+  pub text_is : text ≡ tables_text c.ticks c.frame all (totals_of c h) refused ranks ordered

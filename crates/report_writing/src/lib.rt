@@ -8,6 +8,7 @@ mod life;
 mod members;
 mod metrics;
 mod printed;
+mod reserved;
 mod tables;
 mod text;
 

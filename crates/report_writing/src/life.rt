@@ -6,13 +6,14 @@ ghost use Rattle.report_writing.specs.Report.{kind_name, rank_of, life_data};
 
 use crate::cell::{Cell, Spread, put_object};
 use crate::members::told_if;
+use crate::reserved::under_of;
 use flow_book::FlowSpec;
 use json::Writer;
 use sched_report::{LifeNumbers, POLLED};
 use std::alloc::AllocError;
 
 // The keys of a life, in ascending order.
-static LIFE: [&str; 14] = [
+static LIFE: [&str; 15] = [
     "asked",
     "asks",
     "delay",
@@ -26,6 +27,7 @@ static LIFE: [&str; 14] = [
     "served",
     "sid",
     "to",
+    "under",
     "waiting",
 ];
 
@@ -103,6 +105,7 @@ pub(crate) fn put_life(
         Cell::Count(life.sums.delays.served as u128),
         Cell::Count(life.sid as u128),
         Cell::Count(life.to as u128),
+        Cell::Given(under_of(life)),
         Cell::Count(life.waiting as u128),
     ];
     put_object(out, &LIFE, &cells)

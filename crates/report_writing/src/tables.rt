@@ -7,13 +7,16 @@ mod flows;
 mod lives;
 mod ranks;
 mod refused;
+mod reserved;
 mod uses;
 
 use crate::gathered::{lives_told, ranks_told};
+use crate::reserved::keep_reserved;
 use flows::{order_lives, push_flows};
 use minislots::Checked;
 use ranks::push_ranks;
 use refused::push_refused;
+use reserved::push_reserved;
 use sched_report::Reporter;
 use std::alloc::{AllocError, Global};
 use uses::{push_head, push_uses};
@@ -42,5 +45,7 @@ pub fn report_text(
     push_refused(&mut words, reporter.refused())?;
     push_ranks(&mut words, ticks, replaced, &ranks)?;
     push_flows(&mut words, ticks, replaced, &lives, all)?;
+    keep_reserved(&mut lives);
+    push_reserved(&mut words, config.frame(), &lives, all)?;
     Ok(words)
 }

@@ -2,7 +2,7 @@
 use Rattle.std.proofs.Common.{◌≡◌, Some, None, refl}
 use Rattle.sched_calls.specs.declared.spec.FlowSpec.TheVariants.{Unsolicited, Polled, BestEffort}
 use Rattle.sched_calls.specs.declared.spec.FlowFault.TheVariants.{Size, IntervalNotWhole, IntervalNotFrames}
-use Rattle.sched_calls.specs.declared.spec.FlowFault.TheVariants.{IntervalNotInCycle, Priority, Burst, Grants}
+use Rattle.sched_calls.specs.declared.spec.FlowFault.TheVariants.{IntervalNotInCycle, Priority, Burst, Grants, Reserved}
 use Rattle.sched_calls.specs.FlowSpec.{first_fault}
 use Rattle.sched_calls.proofs.Base.{base}
 
@@ -28,12 +28,12 @@ unfolding first_fault
 a_size_of_nothing_is_refused_first = refl
 
 -- priorities end at 7
-pub a_priority_above_seven_is_refused : first_fault base (BestEffort 8 0 0 0) ≡ Some Priority
+pub a_priority_above_seven_is_refused : first_fault base (BestEffort 8 0 0 0 0 0) ≡ Some Priority
 unfolding first_fault
 a_priority_above_seven_is_refused = refl
 
 -- under a ceiling the burst is the quantum at least
-pub a_burst_below_the_quantum_is_refused : first_fault base (BestEffort 7 1 63 0) ≡ Some Burst
+pub a_burst_below_the_quantum_is_refused : first_fault base (BestEffort 7 1 63 0 0 0) ≡ Some Burst
 unfolding first_fault
 a_burst_below_the_quantum_is_refused = refl
 
@@ -60,3 +60,19 @@ grants_of_none_or_nine_are_refused = (refl, refl, refl)
 pub a_size_of_nothing_is_refused_before_grants : first_fault base (Unsolicited 0 10000 0 0) ≡ Some Size
 unfolding first_fault
 a_size_of_nothing_is_refused_before_grants = refl
+
+-- the burst of a reservation is the quantum at least: 63 bytes are below it, and 64 are not
+pub a_reserved_burst_below_the_quantum_is_refused : (first_fault base (BestEffort 0 0 0 0 1 63) ≡ Some Reserved)
+    × (first_fault base (BestEffort 0 0 0 0 1 64) ≡ None)
+unfolding first_fault
+a_reserved_burst_below_the_quantum_is_refused = (refl, refl)
+
+-- where nothing is reserved the burst of it is not looked at
+pub a_burst_of_no_reservation_is_not_looked_at : first_fault base (BestEffort 0 0 0 0 0 63) ≡ None
+unfolding first_fault
+a_burst_of_no_reservation_is_not_looked_at = refl
+
+-- the burst of a ceiling comes before it
+pub a_burst_is_refused_before_that_of_a_reservation : first_fault base (BestEffort 0 1 63 0 1 63) ≡ Some Burst
+unfolding first_fault
+a_burst_is_refused_before_that_of_a_reservation = refl

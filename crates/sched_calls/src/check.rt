@@ -26,7 +26,8 @@ impl FlowSpec {
         self.check_interval(config)?;
         self.check_priority(config)?;
         self.check_burst(config)?;
-        self.check_grants(config)
+        self.check_grants(config)?;
+        self.check_reserved(config)
     }
 
     // The size of an unsolicited grant: some bytes, in a burst that fits behind the request region.
@@ -110,6 +111,19 @@ impl FlowSpec {
             }
             _ => Ok(()),
         }
+    }
+
+    // The burst of a reservation: at least the quantum.
+    fn check_reserved(&self, config: &Checked) -> Result<(), FlowFault>
+        ensures ok { IfOk result
+            (λ _. first_fault_of config.now self.now (FlowFault.Reserved ∷ []) ≡ None) }
+        ensures err { IfErr result
+            (λ e. first_fault_of config.now self.now (FlowFault.Reserved ∷ []) ≡ Some e) }
+    {
+        require(
+            self.reserved() == 0 || config.quantum() <= self.reserved_burst(),
+            FlowFault::Reserved,
+        )
     }
 
     // The nominal interval of a periodic flow, in microseconds.

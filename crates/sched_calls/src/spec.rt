@@ -1,7 +1,8 @@
 //! The parameters of a flow.
 
 ghost use Rattle.std.specs.Prelude.{◌≡◌};
-ghost use Rattle.sched_calls.specs.FlowSpec.{takes_requests, rank_of, rate_of, burst_of, peak_of, grants_of};
+ghost use Rattle.sched_calls.specs.FlowSpec.{takes_requests, rank_of, rate_of, burst_of, peak_of, reserved_of};
+ghost use Rattle.sched_calls.specs.FlowSpec.{reserved_burst_of, grants_of};
 
 use thiserror::Error;
 
@@ -27,12 +28,16 @@ pub enum FlowSpec {
         burst: u32,
         peak: u32,
     },
-    /// Best effort, by traffic priority from 0 to 7: data grants under both ceilings.
+    /// Best effort, by traffic priority from 0 to 7: data grants under both ceilings. As long as its grants
+    /// keep a minimum reserved rate and that rate's burst, it is served with the polled flows; a reserved rate of 0
+    /// reserves nothing.
     BestEffort {
         priority: u8,
         rate: u32,
         burst: u32,
         peak: u32,
+        reserved: u32,
+        reserved_burst: u32,
     },
 }
 
@@ -64,6 +69,9 @@ pub enum FlowFault {
     /// The grants per interval are 0 or above [`MAX_GRANTS`](crate::MAX_GRANTS).
     #[error("grants")]
     Grants,
+    /// There is a reserved rate, and its burst is below the quantum.
+    #[error("reserved burst")]
+    Reserved,
 }
 
 impl FlowSpec {
@@ -124,6 +132,26 @@ impl FlowSpec {
         match *self {
             FlowSpec::Unsolicited { .. } => 0,
             FlowSpec::Polled { peak, .. } | FlowSpec::BestEffort { peak, .. } => peak,
+        }
+    }
+
+    /// The minimum reserved rate of a best effort flow, in bits per second: 0 reserves nothing.
+    pub fn reserved(&self) -> u32
+        ensures { result ≡ reserved_of self.now }
+    {
+        match *self {
+            FlowSpec::BestEffort { reserved, .. } => reserved,
+            _ => 0,
+        }
+    }
+
+    /// The burst of the reservation, in bytes.
+    pub fn reserved_burst(&self) -> u32
+        ensures { result ≡ reserved_burst_of self.now }
+    {
+        match *self {
+            FlowSpec::BestEffort { reserved_burst, .. } => reserved_burst,
+            _ => 0,
         }
     }
 }

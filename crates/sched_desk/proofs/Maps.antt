@@ -47,7 +47,8 @@ module _ (c : Config) (h : List Entry) (m : FrameMap) where
   admitted : (spec : FlowSpec) → AnswersAdmit c h spec (replies.Built m) → IsNextMap c h m
   admitted (Unsolicited size interval jitter grants) answers = placed (Unsolicited size interval jitter grants) answers
   admitted (Polled interval jitter rate burst peak) answers = placed (Polled interval jitter rate burst peak) answers
-  admitted (BestEffort priority rate burst peak) answers = not_built (replies.Admitted None) refl answers
+  admitted (BestEffort priority rate burst peak reserved reserved-burst) answers =
+      not_built (replies.Admitted None) refl answers
 
   -- or to a change
   placed_anew : (sid : ℕ) (spec : FlowSpec) → PlacesAnew c h sid spec (replies.Built m) → IsNextMap c h m

@@ -28,7 +28,7 @@ module _ (c : Config) (h : List Entry) where
       placed (Unsolicited size interval jitter grants) reply answers
   admitted (Polled interval jitter rate burst peak) reply answers =
       placed (Polled interval jitter rate burst peak) reply answers
-  admitted (BestEffort priority rate burst peak) reply answers = ap map_by answers
+  admitted (BestEffort priority rate burst peak reserved reserved-burst) reply answers = ap map_by answers
 
   placed_anew : (sid : ℕ) (spec : FlowSpec) (reply : Reply) → PlacesAnew c h sid spec reply → map_by reply ≡ None
   placed_anew sid spec reply answers =

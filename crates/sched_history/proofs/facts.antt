@@ -3,5 +3,6 @@ pub mod SoundLives
 pub mod OnTime
 pub mod Orderly
 pub mod Ranging
+pub mod ServedReserved
 pub mod Settled
 pub mod FactsOf

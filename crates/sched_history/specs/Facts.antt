@@ -1,20 +1,27 @@
 -- What follows for every legal history, as an operator of the plant would say it.
 use Rattle.std.specs.Prelude.{◌≡◌, ℕ, ◌+◌, ◌/◌, ◌%◌, ◌<◌, ◌≤◌, Bool, true, false, List, [], ◌∷◌}
 use Rattle.std.specs.Prelude.{if◌then◌else◌}
-use Rattle.std.specs.Prelude.{◌++◌, length, take, zip, Contains}
+use Rattle.std.specs.Prelude.{◌++◌, filter, length, map, take, zip, Contains}
 use Rattle.std.specs.List.{AllByRecursion}
 use Rattle.minislots.specs.declared.config.Config.{Config}
 use Rattle.map_codec.specs.declared.element.Element.{Element}
 use Rattle.map_codec.specs.declared.wire_map.TheConstants.{MAX_ELEMENTS}
 use Rattle.map_codec.specs.Element.{nulls}
-use Rattle.sched_calls.specs.FlowSpec.{rate_of, burst_of, peak_of, interval_frames, jitter_slots}
+use Rattle.sched_calls.specs.FlowSpec.{rate_of, burst_of, peak_of, reserved_of, reserved_burst_of, interval_frames}
+use Rattle.sched_calls.specs.FlowSpec.{jitter_slots}
 use Rattle.sched_calls.specs.declared.spec.TheConstants.{PEAK_BURST}
-use Rattle.flow_book.specs.Flows.{LiveFlow, granted, in_period, in_peak_period}
+use Rattle.flow_book.specs.Flows.{LiveFlow, granted, in_period, in_peak_period, in_reserved_period}
 use Rattle.flow_book.specs.Ceiling.{KeepsCeiling}
 use Rattle.periodic.specs.Placement.{Placed, phase_of, offset_of}
 use Rattle.sched_calls.specs.declared.frame_map.FrameMap.{FrameMap}
+use Rattle.flow_book.specs.Choice.{IsEligible}
+use Rattle.flow_book.specs.Reserved.{is_under, rank_at, waits_under}
+use Rattle.map_build.specs.declared.purpose.Allocation.{Allocation}
+use Rattle.map_build.specs.declared.purpose.Purpose.{Purpose}
+use Rattle.map_build.specs.declared.purpose.Purpose.TheVariants.{DataGrant, Idle}
+use Rattle.map_build.specs.Plan.{Demand, flows_after, grants_in, most_grants, room_at}
 use Rattle.map_build.specs.EachAfter.{EachAfter}
-use Rattle.map_build.specs.FrameMap.{request_region, quiet_element, null_element}
+use Rattle.map_build.specs.FrameMap.{request_region, quiet_element, null_element, map_of}
 use Rattle.map_build.specs.declared.met.Met.{Met}
 use Rattle.map_build.specs.Reading.{meets_at}
 use Rattle.sched_calls.specs.declared.call.Call.{Call}
@@ -23,7 +30,9 @@ use Rattle.sched_calls.specs.declared.reply.Reply.{Reply}
 use Rattle.sched_calls.specs.declared.reply.Reply.TheVariants.{Taken, Built}
 use Rattle.sched_calls.specs.declared.reply.Entry.{Entry}
 use Rattle.sched_history.specs.Life.{flows_of, table_of}
-use Rattle.sched_history.specs.Reserves.{met_after}
+use Rattle.sched_history.specs.History.{demand_after}
+use Rattle.sched_history.specs.Time.{ack_after, next_after}
+use Rattle.sched_history.specs.Reserves.{header_after, met_after}
 use Rattle.sched_history.specs.Refusal.{bad_sid}
 pub use Rattle.sched_history.specs.Settling.{maps_of}
 use Rattle.sched_history.specs.Settling.{is_quiet, settles_after}
@@ -40,6 +49,20 @@ IsWithinRate c f = KeepsCeiling c (rate_of f.spec) (burst_of f.spec) (in_period 
 -- the flow's grants in the present period of its peak rate keep that, and the burst of one, over every window
 abbrev pub IsWithinPeak : Config → LiveFlow → Type 0
 IsWithinPeak c f = KeepsCeiling c (peak_of f.spec) PEAK_BURST (in_peak_period f)
+
+-- the flow's reserved grants in the present period of its reservation keep the reserved rate and its burst over every
+-- window
+abbrev pub IsWithinReserved : Config → LiveFlow → Type 0
+IsWithinReserved c f = KeepsCeiling c (reserved_of f.spec) (reserved_burst_of f.spec) (in_reserved_period f)
+
+-- the SIDs of the flows that wait for bytes where the next frame starts, each under its reservation, in order
+abbrev pub under_next : Config → List Entry → List ℕ
+under_next c h = map (λ f. f.sid) (filter (waits_under c (next_after c h)) (flows_of c h))
+
+-- the same where the MAP of a reply starts that follows a history: none where it settles
+abbrev pub under_by : Config → List Entry → Reply → List ℕ
+under_by c h (Built m) = if settles_after c h then [] else under_next c h
+under_by c h reply = []
 
 -- each element begins before the next
 abbrev pub OffsetsAscend : List Element → Type 0
@@ -113,17 +136,43 @@ abbrev pub SettlesInTime : Config → List Entry → Reply → Type 0
 SettlesInTime c before (Built m) = is_quiet m.wire.elements ≡ settles_after c before
 SettlesInTime c before reply = Unit {0}
 
+-- a flow that may be served at this minislot, in so many minislots, is under its reservation
+pub record IsReserving (c : Config) (flows : List LiveFlow) (start room : ℕ) (f : LiveFlow) : Type 0 where
+  pub live : Contains flows f
+  pub may : IsEligible c start room f
+  pub under : is_under c start f ≡ true
+
+-- no idle stands where with a data grant left to give a flow is under its reservation, and no data grant there goes to a
+-- flow of a rank below that of polled flows
+abbrev pub GivesWay : Config → Demand → List Allocation → ℕ → Purpose → Type 0
+GivesWay c d before offset (DataGrant sid bytes) = (f : LiveFlow)
+    × Contains (flows_after c d.start before d.flows) f × (f.sid ≡ sid)
+    × ((g : LiveFlow) → IsReserving c (flows_after c d.start before d.flows) (d.start + offset)
+    (room_at c d.spots offset) g → 8 ≤ rank_at c (d.start + offset) f)
+GivesWay c d before offset Idle = grants_in before < most_grants c d.waiting → (g : LiveFlow)
+    → IsReserving c (flows_after c d.start before d.flows) (d.start + offset) (room_at c d.spots offset) g → ⊥
+GivesWay c d before offset purpose = Unit {0}
+
+-- the MAP of a reply is that of a plan in which each allocation gives way to flows under their reservations
+abbrev pub ServesReserved : Config → List Entry → Reply → Type 0
+ServesReserved c before (Built m) = (plan : List Allocation)
+    × (m ≡ map_of c (demand_after c before) (header_after c before) (ack_after c before) plan)
+    × EachAfter (λ front a. GivesWay c (demand_after c before) front a.offset a.purpose) [] plan
+ServesReserved c before reply = Unit {0}
+
 -- What an operator may rely on after these entries
 pub record HoldsAfter (c : Config) (h : List Entry) : Type 0 where
   pub within_asked : AllByRecursion IsWithinAsked (flows_of c h)
   pub within_rate : AllByRecursion (IsWithinRate c) (flows_of c h)
   pub within_peak : AllByRecursion (IsWithinPeak c) (flows_of c h)
+  pub within_reserved : AllByRecursion (IsWithinReserved c) (flows_of c h)
   pub orderly : AllByRecursion (IsOrderly c) (maps_of h)
   pub starts_ascend : StartsAscend c (maps_of h)
   pub on_time :
       EachAfter (λ before e. KeepsTimes c (table_of before) (met_after c before e.reply) e.reply) [] h
   pub heard_after : EachAfter (λ before e. IsHeardAfter (maps_of before) e.call e.reply) [] h
   pub ranging : HoldsForRanging c h
+  pub serves_reserved : EachAfter (λ before e. ServesReserved c before e.reply) [] h
   pub settles : EachAfter (λ before e. SettlesInTime c before e.reply) [] h
 
 -- it holds after every entry of the history: for every front of its list

@@ -39,7 +39,7 @@ AnswersAdmit c h (Unsolicited size interval jitter grants) reply =
     PlacesOrRefuses c h (Unsolicited size interval jitter grants) reply
 AnswersAdmit c h (Polled interval jitter rate burst peak) reply =
     PlacesOrRefuses c h (Polled interval jitter rate burst peak) reply
-AnswersAdmit c h (BestEffort priority rate burst peak) reply = reply ≡ replies.Admitted None
+AnswersAdmit c h (BestEffort priority rate burst peak reserved reserved-burst) reply = reply ≡ replies.Admitted None
 
 -- a flow is placed anew beside the others, its own placement taken out before, or refused where there is no place
 abbrev pub PlacesAnew : Config → List Entry → ℕ → FlowSpec → Reply → Type 0

@@ -11,7 +11,8 @@ use Rattle.flow_book.specs.declared.flow.Grant.{Grant}
 use Rattle.flow_book.specs.declared.batches.Batches.{Batches}
 use Rattle.flow_book.specs.Batches.{no_batches, with_request}
 use Rattle.flow_book.specs.Flows.{LiveFlow, bytes_of}
-use Rattle.flow_book.specs.Book.{has_ceiling_of, has_peak_of}
+use Rattle.flow_book.specs.Book.{has_ceiling_of, has_peak_of, has_reserve_of}
+use Rattle.map_build.specs.Plan.{with_grants}
 use Rattle.sched_calls.specs.declared.placement.Placement.{Placement}
 use Rattle.periodic.specs.Placement.{count_from, Placed}
 use Rattle.sched_calls.specs.declared.frame_map.FrameMap.{FrameMap}
@@ -129,8 +130,8 @@ abbrev pub given_after : ℕ → Admission → List Entry → Admission
 given_after sid first entries =
     option_map_or (λ found. found.said) (latest (λ e. change_by sid e.call e.reply) entries) first
 
--- a change gives a flow of these parameters another ceiling: that of its rate and burst, or that of its peak rate, as
--- this tells whether two flows have the same
+-- a change gives a flow of these parameters another ceiling: that of its rate and burst, that of its peak rate, or its
+-- reservation, as this tells whether two flows have the same
 abbrev pub changes_ceiling : (FlowSpec → FlowSpec → Bool) → ℕ → FlowSpec → Entry → Bool
 changes_ceiling same sid spec e = option_map_or (λ a. not (same spec a.spec)) (change_by sid e.call e.reply) false
 
@@ -149,6 +150,46 @@ period_of same sid life = period_after same sid life.admission [] life.since
 -- how many data grants of a life came before that
 abbrev pub earlier_in : (FlowSpec → FlowSpec → Bool) → ℕ → Life → ℕ
 earlier_in same sid life = length (grants_since sid (up_to life.since (period_of same sid life)))
+
+-- what a reservation has: its reserved grants, and how many of them came before its present period
+pub record Reservation : Type 0 where
+  pub reserved : List Grant
+  pub earlier : ℕ
+
+-- a flow of these parameters with these entries since its life began, as its reservation sees it
+abbrev pub reserving : Config → ℕ → FlowSpec → List Entry → Reservation → LiveFlow
+reserving c sid spec before r =
+    record {
+      sid = sid;
+      spec = spec;
+      asked = asked_in c sid before;
+      batches = no_batches;
+      grants = grants_since sid before;
+      earlier = 0;
+      peak_earlier = 0;
+      reserved = r.reserved;
+      reserved_earlier = r.earlier;
+    }
+
+-- the reservation of such a flow after an entry: its data grants of a MAP are reserved ones where it is under its
+-- reservation at their starts, and a change that gives it another reservation begins a period
+abbrev pub reservation_by : Config → ℕ → FlowSpec → List Entry → Reservation → Entry → Reservation
+reservation_by c sid spec before r e = record {
+  reserved = (with_grants c (grants_by sid e.reply) (reserving c sid spec before r)).reserved;
+  earlier = if changes_ceiling has_reserve_of sid spec e then length r.reserved else r.earlier;
+}
+
+-- the reservation after more entries of a life, which follow those before, by which the flow has these parameters
+abbrev pub reservation_after : Config → ℕ → Admission → Reservation → List Entry → List Entry → Reservation
+reservation_after c sid given r before [] = r
+reservation_after c sid given r before (e ∷ entries) =
+    reservation_after c sid (given_after sid given (e ∷ [])) (reservation_by c sid given.spec before r e)
+    (before ++ e ∷ []) entries
+
+-- the reservation of a life
+abbrev pub reservation_of : Config → ℕ → Life → Reservation
+reservation_of c sid life =
+    reservation_after c sid life.admission (record { reserved = []; earlier = 0 }) [] life.since
 
 -- whether an unsolicited flow rests from an entry on: while nothing says so it does not
 abbrev pub rest_by : ℕ → Call → Reply → Option Bool
@@ -176,6 +217,8 @@ flow_in_life c sid life =
       grants = grants_since sid life.since;
       earlier = earlier_in has_ceiling_of sid life;
       peak_earlier = earlier_in has_peak_of sid life;
+      reserved = (reservation_of c sid life).reserved;
+      reserved_earlier = (reservation_of c sid life).earlier;
     }
 
 -- the placed flow that a life is

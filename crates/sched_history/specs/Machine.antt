@@ -45,7 +45,7 @@ IsPlaceable c h (Unsolicited size interval jitter grants) =
     (p : Placement) × IsPlacement c (table_of h) (Unsolicited size interval jitter grants) (next_after c h) p
 IsPlaceable c h (Polled interval jitter rate burst peak) =
     (p : Placement) × IsPlacement c (table_of h) (Polled interval jitter rate burst peak) (next_after c h) p
-IsPlaceable c h (BestEffort priority rate burst peak) = Unit {0}
+IsPlaceable c h (BestEffort priority rate burst peak reserved reserved-burst) = Unit {0}
 
 -- a change of a flow that was given this answers a placement: the one that it keeps, or one beside the others, where
 -- there is one

@@ -24,6 +24,7 @@ mod reserves;
 mod resuming;
 mod settling;
 mod state;
+mod under;
 
 use crate::fault::PlanFault;
 use crate::ledger::Ledger;

@@ -5,6 +5,7 @@ use Rattle.map_codec.specs.WireMap.{spelling}
 use Rattle.sched_calls.specs.declared.spec.FlowFault.{FlowFault}
 use Rattle.sched_calls.specs.declared.spec.FlowFault.TheVariants.{Size, IntervalNotWhole, IntervalNotFrames}
 use Rattle.sched_calls.specs.declared.spec.FlowFault.TheVariants.{IntervalNotInCycle, Priority, Burst, Grants}
+use Rattle.sched_calls.specs.declared.spec.FlowFault.TheVariants as faults
 use Rattle.sched_calls.specs.declared.reply.Refusal.{Refusal}
 use Rattle.sched_calls.specs.declared.reply.Refusal.TheVariants.{BadSid, SidLive, BadFlow, FlowsFull, PeriodicFull}
 use Rattle.sched_calls.specs.declared.reply.Refusal.TheVariants.{NoPlace, NoFlow, NotAsking, BadReceiver, BadBytes}
@@ -39,6 +40,7 @@ fault_number IntervalNotInCycle = 4
 fault_number Priority = 5
 fault_number Burst = 6
 fault_number Grants = 7
+fault_number faults.Reserved = 8
 
 -- the number of a refusal
 abbrev pub refusal_number : Refusal → ℕ

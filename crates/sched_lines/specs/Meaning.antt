@@ -3,6 +3,7 @@ use Rattle.std.specs.Prelude.{ℕ, List, [], ◌∷◌, ◌++◌, codes, decimal
 use Rattle.sched_calls.specs.declared.spec.FlowFault.{FlowFault}
 use Rattle.sched_calls.specs.declared.spec.FlowFault.TheVariants.{Size, IntervalNotWhole, IntervalNotFrames}
 use Rattle.sched_calls.specs.declared.spec.FlowFault.TheVariants.{IntervalNotInCycle, Priority, Burst, Grants}
+use Rattle.sched_calls.specs.declared.spec.FlowFault.TheVariants as faults
 use Rattle.sched_calls.specs.declared.call.TheConstants.{MAX_RESERVES}
 use Rattle.sched_calls.specs.declared.reply.Refusal.{Refusal}
 use Rattle.sched_calls.specs.declared.reply.Refusal.TheVariants.{BadSid, SidLive, BadFlow, FlowsFull, PeriodicFull}
@@ -25,6 +26,8 @@ fault_words IntervalNotInCycle = codes "bad interval: its frames do not divide t
 fault_words Priority = codes "bad priority: it is above 7"
 fault_words Burst = codes "bad burst: there is a rate, and the burst is below the quantum"
 fault_words Grants = codes "bad grants: they are 0 or above 8 in an interval"
+fault_words faults.Reserved =
+    codes "bad reserved burst: there is a reserved rate, and its burst is below the quantum"
 
 -- what a refusal means, up to its number where it has one
 abbrev pub words_before : Refusal → List ℕ

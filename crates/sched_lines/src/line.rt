@@ -61,6 +61,7 @@ fn fault_number(fault: FlowFault) -> u64
         FlowFault::Priority => 5,
         FlowFault::Burst => 6,
         FlowFault::Grants => 7,
+        FlowFault::Reserved => 8,
     }
 }
 

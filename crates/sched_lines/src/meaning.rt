@@ -23,6 +23,8 @@ fn fault_words(fault: FlowFault) -> &'static [u8]
         FlowFault::Priority => b"bad priority: it is above 7",
         FlowFault::Burst => b"bad burst: there is a rate, and the burst is below the quantum",
         FlowFault::Grants => b"bad grants: they are 0 or above 8 in an interval",
+        FlowFault::Reserved =>
+            b"bad reserved burst: there is a reserved rate, and its burst is below the quantum",
     }
 }
 

@@ -201,7 +201,7 @@ no_unsolicited met (flows.Unsolicited size interval jitter grants) sid a apart =
     ap {B = ℕ} (λ (t : Bool). if t && is_unsolicited (use_of a (meets_at met a.offset) true) then size else 0)
     (ne_eqb a.sid sid apart)
 no_unsolicited met (flows.Polled interval jitter rate burst peak) sid a apart = refl
-no_unsolicited met (flows.BestEffort priority rate burst peak) sid a apart = refl
+no_unsolicited met (flows.BestEffort priority rate burst peak reserved reserved-burst) sid a apart = refl
 
 module _ (places : List ℕ) (ts : List LifeTally) (are : AreLive places ts) (k : ℕ) (t : LifeTally)
     (below : k < length ts) (alive : (get_or ts k t).to ≡ None) where

@@ -21,6 +21,8 @@ pub mod LivesGoing
 pub mod Naming
 pub mod GrantedLaws
 pub mod LiveNow
+pub mod UnderLaws
+pub mod UnderSteps
 pub mod RanksTold
 pub mod RowsPercentiles
 pub mod RowsSaid

@@ -37,7 +37,7 @@ pub granted_under-data : (spec : FlowSpec) (unsolicited bytes : ℕ)
 granted_under-data (Unsolicited size interval jitter grants) unsolicited bytes other =
     absurd (other size interval jitter grants refl)
 granted_under-data (Polled interval jitter rate burst peak) unsolicited bytes other = refl
-granted_under-data (BestEffort priority rate burst peak) unsolicited bytes other = refl
+granted_under-data (BestEffort priority rate burst peak reserved reserved-burst) unsolicited bytes other = refl
 
 module _ (c : Config) (t : LifeTally) (life : PastLife) (is : IsLifeOf c t life) where
   -- there are few requests

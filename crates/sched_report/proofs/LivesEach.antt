@@ -42,7 +42,7 @@ is_opening call reply o is = absurd (cc)
 
 -- what a place past the end of a list of lives is read as; no definition depends on it
 abbrev pub no_life : PastLife
-no_life = record { sid = 0; first = BestEffort 0 0 0 0; upto = []; since = []; ended = true }
+no_life = record { sid = 0; first = BestEffort 0 0 0 0 0 0; upto = []; since = []; ended = true }
 
 module _ (c : Config) (ts : List LifeTally) (ls : List PastLife) (are : AreLives c ts ls) where
   -- one of them changes, and what is told of its life stays
@@ -89,7 +89,7 @@ module _ (c : Config) (ts : List LifeTally) (ls : List PastLife) (are : AreLives
   }
 
 -- each life of a legal history is one of its
-life_in : (c : Config) (h : List Entry) → IsLegal c h → (k : ℕ) (life : PastLife) → k < length (lives_of h)
+pub life_in : (c : Config) (h : List Entry) → IsLegal c h → (k : ℕ) (life : PastLife) → k < length (lives_of h)
     → IsLifeIn h (get_or (lives_of h) k life)
 life_in c h legal k life below =
     All-contains (IsLifeIn h) (lives_of h) (get_or (lives_of h) k life)

@@ -68,7 +68,7 @@ pub granted_under-asking : (spec : FlowSpec) (unsolicited bytes : ℕ) → takes
     → granted_under spec unsolicited bytes ≡ bytes
 granted_under-asking (Unsolicited size interval jitter grants) unsolicited bytes asks = absurd (cc)
 granted_under-asking (Polled interval jitter rate burst peak) unsolicited bytes asks = refl
-granted_under-asking (BestEffort priority rate burst peak) unsolicited bytes asks = refl
+granted_under-asking (BestEffort priority rate burst peak reserved reserved-burst) unsolicited bytes asks = refl
 
 -- the sums over some lives and one more
 pub AreRankSums-push : (c : Config) (s new : RankSums) (ls : List PastLife) (l : PastLife) → AreRankSums c s ls

@@ -33,7 +33,7 @@ requests = entry 2 (Ask 0 17 (Bytes 100) 800) Taken ∷ entry 3 (Ask 0 17 (Bytes
     ∷ entry 4 (Build 800) (Built granted) ∷ entry 5 (Ask 0 17 (Bytes 70) 860) Taken ∷ []
 
 abbrev life : Bool → PastLife
-life ended = record { sid = 17; first = BestEffort 3 0 0 0; upto = []; since = requests; ended = ended }
+life ended = record { sid = 17; first = BestEffort 3 0 0 0 0 0; upto = []; since = requests; ended = ended }
 
 -- each delay is up to the end of the grant
 two_are_served : delays_in base (life false) ≡ 56 ∷ 46 ∷ []
@@ -114,7 +114,7 @@ rest start = base_map start 841 (element 0x3fff 1 0 ∷ element 17 6 4 ∷ eleme
 abbrev asked_once : List Entry → PastLife
 asked_once more = record {
   sid = 17;
-  first = BestEffort 3 0 0 0;
+  first = BestEffort 3 0 0 0 0 0;
   upto = [];
   since = entry 2 (Ask 0 17 (Bytes 1000) 801) Taken ∷ entry 3 (Build 800) (Built part) ∷ more;
   ended = false;
@@ -194,7 +194,7 @@ the_last_size_is_told = refl
 -- a life is of the rank that its last change gives
 abbrev promoted : PastLife
 promoted = record (life false) {
-  since = requests ++ entry 6 (Change 17 (BestEffort 6 0 0 0)) (Changed None) ∷ [];
+  since = requests ++ entry 6 (Change 17 (BestEffort 6 0 0 0 0 0)) (Changed None) ∷ [];
 }
 
 it_is_of_rank_6 : lives_of_rank 6 (promoted ∷ []) ≡ promoted ∷ []
@@ -204,7 +204,7 @@ and_no_more_of_rank_3 : lives_of_rank 3 (promoted ∷ []) ≡ []
 and_no_more_of_rank_3 = refl
 
 -- its priority is a best effort flow's
-the_priority : priority_of (BestEffort 3 0 0 0) ≡ Some 3
+the_priority : priority_of (BestEffort 3 0 0 0 0 0) ≡ Some 3
 the_priority = refl
 
 no_priority_of_a_polled_flow : priority_of (Polled 1000 0 0 0 0) ≡ None
@@ -219,7 +219,7 @@ unsolicited_ones_are_of_no_rank = refl
 
 -- of priority 3 there are both lives under SID 17
 abbrev all : List PastLife
-all = life true ∷ voice ∷ life false ∷ record (life false) { first = BestEffort 5 0 0 0 } ∷ []
+all = life true ∷ voice ∷ life false ∷ record (life false) { first = BestEffort 5 0 0 0 0 0 } ∷ []
 
 both_are_of_rank_3 : lives_of_rank 3 all ≡ life true ∷ life false ∷ []
 both_are_of_rank_3 = refl

@@ -2,13 +2,13 @@ pub mod Counts
 pub mod Uses
 pub mod Totals
 pub mod Counted
-pub mod Reported
 pub mod Delays
 pub mod Requests
 pub mod Spread
 pub mod Steps
 pub mod Served
 pub mod Lives
+pub mod UnderIn
 pub mod Said
 pub mod Ranks
 pub mod RanksTold
@@ -17,3 +17,5 @@ pub mod Named
 pub mod Live
 pub mod Granted
 pub mod ToldLives
+pub mod Under
+pub mod Reported

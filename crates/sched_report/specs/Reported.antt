@@ -13,10 +13,11 @@ use Rattle.sched_report.specs.Totals.{AreTotals}
 use Rattle.sched_report.specs.Live.{AreLive}
 use Rattle.sched_report.specs.Lives.{lives_of}
 use Rattle.sched_report.specs.ToldLives.{AreLives}
+use Rattle.sched_report.specs.Under.{AreUnder}
 
 -- The numbers are those of the history that the auditor took
 pub record IsReport (c : Config) (past : Past) (flows : List Bool) (t : Totals) (counts : List ℕ)
-    (slot : ℕ) (ts : List LifeTally) (places : List ℕ) : Type 0 where
+    (slot : ℕ) (ts : List LifeTally) (places under : List ℕ) : Type 0 where
   pub config : c ≡ past.config
   pub legal : IsLegal c past.history
   pub told : TellsUnsolicited flows past.history
@@ -26,3 +27,4 @@ pub record IsReport (c : Config) (past : Past) (flows : List Bool) (t : Totals) 
   pub next : slot ≡ next_after c past.history
   pub lives : AreLives c ts (lives_of past.history)
   pub live : AreLive places ts
+  pub waited : AreUnder c past.history under

@@ -58,7 +58,7 @@ is_grant_to met sid a = a.sid == sid && is_unsolicited (use_of a (meets_at met a
 abbrev pub unsolicited_at : List Met → FlowSpec → ℕ → Allocation → ℕ
 unsolicited_at met (flows.Unsolicited size interval jitter grants) sid a = if is_grant_to met sid a then size else 0
 unsolicited_at met (flows.Polled interval jitter rate burst peak) sid a = 0
-unsolicited_at met (flows.BestEffort priority rate burst peak) sid a = 0
+unsolicited_at met (flows.BestEffort priority rate burst peak reserved reserved-burst) sid a = 0
 
 -- the bytes of the unsolicited grants that a MAP has to it, which meets these
 abbrev pub unsolicited_of_map : List Met → FlowSpec → ℕ → FrameMap → ℕ
@@ -85,7 +85,7 @@ unsolicited_in c life = unsolicited_after c life.sid life.first life.upto [] lif
 abbrev pub granted_under : FlowSpec → ℕ → ℕ → ℕ
 granted_under (flows.Unsolicited size interval jitter grants) unsolicited bytes = unsolicited
 granted_under (flows.Polled interval jitter rate burst peak) unsolicited bytes = bytes
-granted_under (flows.BestEffort priority rate burst peak) unsolicited bytes = bytes
+granted_under (flows.BestEffort priority rate burst peak reserved reserved-burst) unsolicited bytes = bytes
 
 -- the bytes that a life was granted
 abbrev pub granted_in : Config → PastLife → ℕ
@@ -95,4 +95,4 @@ granted_in c life = granted_under (spec_of life) (unsolicited_in c life) (bytes_
 abbrev pub priority_of : FlowSpec → Option ℕ
 priority_of (flows.Unsolicited size interval jitter grants) = None
 priority_of (flows.Polled interval jitter rate burst peak) = None
-priority_of (flows.BestEffort priority rate burst peak) = Some priority
+priority_of (flows.BestEffort priority rate burst peak reserved reserved-burst) = Some priority

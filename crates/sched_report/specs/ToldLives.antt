@@ -23,6 +23,7 @@ use Rattle.sched_report.specs.Spread.{TellsPercentile}
 use Rattle.sched_report.specs.Said.{claims_of, delays_in, priority_of, granted_in, outstanding_in}
 use Rattle.sched_report.specs.Said.{waiting_in, dropped_in}
 use Rattle.sched_report.specs.Told.{IsLifeOf, MayNote, Meets}
+use Rattle.sched_report.specs.UnderIn.{under_in}
 
 -- What is told is of these lives, each at its place
 pub record AreLives (c : Config) (ts : List LifeTally) (lives : List PastLife) : Type 0 where
@@ -64,8 +65,8 @@ pub record MayFollow (c : Config) (h : List Entry) (ts : List LifeTally) (slot :
   pub meets : met ≡ met_after c h e.reply
 
 -- These are the numbers of a life: where the next frame started at its admission, and where it started at its end or
--- starts now, whether it ended, what it asked and was granted, its requests that were not served, and the delays that
--- 50 and 99 in a hundred of those that were served do not exceed
+-- starts now, whether it ended, what it asked and was granted, its requests that were not served, the delays that 50
+-- and 99 in a hundred of those that were served do not exceed, and how often it waited under its reservation
 pub record AreLifeNumbers (c : Config) (n : LifeNumbers) (life : PastLife) : Type 0 where
   pub sid : n.sid ≡ life.sid
   pub spec : n.spec ≡ spec_of life
@@ -80,3 +81,4 @@ pub record AreLifeNumbers (c : Config) (n : LifeNumbers) (life : PastLife) : Typ
   pub dropped : n.dropped ≡ dropped_in c life
   pub middle : TellsPercentile 50 (delays_in c life) n.middle
   pub p99 : TellsPercentile 99 (delays_in c life) n.p99
+  pub under : n.under ≡ under_in c life

@@ -14,6 +14,7 @@ mod service;
 mod slots;
 mod spread;
 mod totals;
+mod under;
 
 pub use calls::Calls;
 pub use life::{LifeNumbers, POLLED};

@@ -1,6 +1,6 @@
 //! One life of a flow: what it asked and was granted, and from when to when it lived.
 
-ghost use Rattle.std.specs.Prelude.{◌≡◌, ◌+◌, ◌*◌, ◌<◌, ◌≤◌, ◌^◌, ◌++◌, ◌∷◌, [], List, ℕ, map, false};
+ghost use Rattle.std.specs.Prelude.{◌≡◌, ◌+◌, ◌*◌, ◌<◌, ◌≤◌, ◌^◌, ◌++◌, ◌∷◌, [], List, ℕ, map, false, not, ◌&&◌, ◌==◌};
 ghost use Rattle.std.specs.Prelude.{None, Some, is_some, IfSome, OnOk};
 ghost use Rattle.std.specs.List.{cons_option};
 ghost use Rattle.std.specs.Option.{option_map_or};
@@ -22,6 +22,7 @@ ghost use Rattle.sched_report.specs.Steps.{CountsUpto};
 ghost use Rattle.sched_report.specs.Said.{is_grant_to, unsolicited_at};
 ghost use Rattle.sched_report.specs.Told.{IsLifeOf, MayNote, MayGrantAll, HasRoomFor};
 ghost use Rattle.sched_report.specs.ToldLives.{AreLifeNumbers};
+ghost use Rattle.sched_report.specs.UnderIn.{under_in};
 
 use crate::percentiles::percentile;
 use crate::requests::{note_request, request_of};
@@ -69,6 +70,8 @@ pub struct LifeNumbers {
     pub middle: Option<u64>,
     /// That of 99 in a hundred.
     pub p99: Option<u64>,
+    /// The MAPs of its life, but those that settle, at whose starts it waited for bytes under its minimum reserved rate.
+    pub under: u64,
 }
 
 // What is kept of one life of a flow.
@@ -101,12 +104,12 @@ impl LifeTally {
         }
     }
 
-    // Its numbers, where the next frame starts there.
-    pub(crate) fn numbers(&self, next: u64) -> LifeNumbers
+    // Its numbers, where the next frame starts there, and so often it waited under its reservation.
+    pub(crate) fn numbers(&self, next: u64, under: u64) -> LifeNumbers
         requires { (c : Config) × (life : PastLife) × IsLifeOf c self.now life }
         ensures told { (c : Config) (life : PastLife) → IsLifeOf c self.now life
             → (life.ended ≡ false → next ≡ next_after c (life.upto ++ life.since))
-            → AreLifeNumbers c result life }
+            → under ≡ under_in c life → AreLifeNumbers c result life }
         ensures few { result.granted < 2 ^ 90 }
     {
         let sums = self.sums();
@@ -126,7 +129,15 @@ impl LifeTally {
             dropped: self.dropped(),
             middle: percentile(one, None, 50, served, sums.delays.greatest),
             p99: percentile(one, None, 99, served, sums.delays.greatest),
+            under,
         }
+    }
+
+    // Whether it is of this SID and goes on.
+    pub(crate) fn goes_on_as(&self, sid: u16) -> bool
+        ensures { result ≡ (not (is_some self.now.to) && self.now.sid == sid) }
+    {
+        self.to.is_none() && self.sid == sid
     }
 
     // Its requests and its data grants.

@@ -36,7 +36,7 @@ pub(crate) struct Opening {
 }
 
 // The place that a table has for a SID.
-fn place_under(places: &[usize], sid: u16) -> usize
+pub(crate) fn place_under(places: &[usize], sid: u16) -> usize
     requires { length places.now ≡ 65536 }
     ensures { result ≡ slice_index places.now sid }
 {
@@ -273,7 +273,7 @@ pub(crate) fn begin_life(
 }
 
 // The SID and the parameters of the flow that an entry admits.
-fn opening_of(entry: &Entry) -> Option<Opening>
+pub(crate) fn opening_of(entry: &Entry) -> Option<Opening>
     ensures { result ≡ opening_by entry.now.call entry.now.reply }
 {
     match (entry.call, &entry.reply) {

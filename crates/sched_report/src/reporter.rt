@@ -15,6 +15,7 @@ use crate::life::{LifeNumbers, LifeTally};
 use crate::lives::{follow, reserve_for};
 use crate::ranks::{RankNumbers, numbers_of};
 use crate::totals::Totals;
+use crate::under::{count_under, reserve_count};
 use frame_picture::{Flows, no_flows, note};
 use minislots::Checked;
 use sched_history::{Auditor, Entry, JudgeFault, MAX_WHOLE_HISTORY};
@@ -42,6 +43,8 @@ pub struct Reporter {
     lives: Vec<LifeTally>,
     // Where the life that goes on under each SID stands, which alone an entry of the SID is shown to.
     places: Vec<usize>,
+    // How often each life waited under its minimum reserved rate, at the places of the lives.
+    under: Vec<u64>,
 }
 
 impl Model for Reporter {
@@ -55,7 +58,7 @@ impl Model for Reporter {
 
     ghost invariant = { λ r.
         IsReport r.config r.auditor r.flows.value r.totals r.refused r.next r.lives.items
-        r.places.items };
+        r.places.items r.under.items };
 }
 
 impl Reporter {
@@ -74,6 +77,7 @@ impl Reporter {
             refused: [0; REFUSALS],
             lives: Vec::new(alloc),
             places: vec![in alloc; 0; SIDS]?,
+            under: Vec::new(alloc),
         })
     }
 
@@ -104,8 +108,15 @@ impl Reporter {
             Ok(()) => {}
             Err(_) => return Err(JudgeFault::Memory),
         }
-        // What its MAP meets is told by the entries before it.
+        match reserve_count(&mut self.under, entry) {
+            Ok(()) => {}
+            Err(_) => return Err(JudgeFault::Memory),
+        }
+        // What its MAP meets, and who waits where it starts, is told by the entries before it.
         let Ok(met) = self.auditor.met(entry) else {
+            return Err(JudgeFault::Memory);
+        };
+        let Ok(sids) = self.auditor.under(entry) else {
             return Err(JudgeFault::Memory);
         };
         self.auditor.judge(entry)?;
@@ -113,6 +124,13 @@ impl Reporter {
             .add(&self.config, &self.flows, met.as_slice(), entry);
         count_refusal(&mut self.refused, entry);
         note(&mut self.flows, entry);
+        count_under(
+            &mut self.under,
+            &self.lives,
+            &self.places,
+            sids.as_slice(),
+            entry,
+        );
         self.next = follow(
             &mut self.lives,
             &mut self.places,
@@ -154,7 +172,7 @@ impl Reporter {
             (slice_index_or (lives_of self.now.history) place life) }
         ensures few { result.granted < 2 ^ 90 }
     {
-        self.lives[place].numbers(self.next)
+        self.lives[place].numbers(self.next, self.under[place])
     }
 
     /// The numbers of a rank: of polled flows in [`POLLED`](crate::POLLED), of best effort flows in their priority.

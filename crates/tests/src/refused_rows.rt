@@ -41,6 +41,8 @@ const DATA: FlowSpec = FlowSpec::BestEffort {
     rate: 0,
     burst: 0,
     peak: 0,
+    reserved: 0,
+    reserved_burst: 0,
 };
 
 const ASK: Call = Call::Ask {

@@ -34,6 +34,8 @@ const CALLS: [Call; 18] = [
             rate: 0,
             burst: 0,
             peak: 0,
+            reserved: 0,
+            reserved_burst: 0,
         },
     ),
     Call::Ask {
@@ -84,6 +86,8 @@ const CALLS: [Call; 18] = [
             rate: 0,
             burst: 0,
             peak: 0,
+            reserved: 0,
+            reserved_burst: 0,
         },
     ),
     Call::Replace {

@@ -18,6 +18,7 @@ fn fault_with(number: u64) -> Option<FlowFault>
         5 => FlowFault::Priority,
         6 => FlowFault::Burst,
         7 => FlowFault::Grants,
+        8 => FlowFault::Reserved,
         _ => return None,
     })
 }

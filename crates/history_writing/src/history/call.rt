@@ -59,7 +59,7 @@ fn put_polled(
     out.end_object()
 }
 
-// So does that of a best effort flow.
+// So does that of a best effort flow, and a reserved rate and its burst each stand where it is above 0.
 #[tactic(auto, unfolding(crate::specs::Json::flow_data))]
 fn put_best_effort(
     out: &mut Writer,
@@ -67,9 +67,11 @@ fn put_best_effort(
     rate: u32,
     burst: u32,
     peak: u32,
+    reserved: u32,
+    reserved_burst: u32,
 ) -> Result<(), AllocError>
-    ensures ok { OnOk result (out.new.tokens
-        ≡ out.old.tokens ++ tokens_of (flow_data (BestEffort priority rate burst peak))) }
+    ensures ok { OnOk result (out.new.tokens ≡ out.old.tokens
+        ++ tokens_of (flow_data (BestEffort priority rate burst peak reserved reserved_burst))) }
     ensures before { out.new.before ≡ out.old.before }
 {
     out.begin_object()?;
@@ -78,6 +80,8 @@ fn put_best_effort(
     put_optional(out, "peak", peak as u64, 0)?;
     put_count(out, "priority", priority as u64)?;
     put_count(out, "rate", rate as u64)?;
+    put_optional(out, "reserved", reserved as u64, 0)?;
+    put_optional(out, "reserved_burst", reserved_burst as u64, 0)?;
     out.end_object()
 }
 
@@ -106,7 +110,9 @@ fn put_flow(out: &mut Writer, flow: FlowSpec) -> Result<(), AllocError>
             rate,
             burst,
             peak,
-        } => put_best_effort(out, priority, rate, burst, peak),
+            reserved,
+            reserved_burst,
+        } => put_best_effort(out, priority, rate, burst, peak, reserved, reserved_burst),
     }
 }
 

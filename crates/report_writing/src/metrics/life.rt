@@ -2,13 +2,14 @@
 
 ghost use Rattle.std.specs.Prelude.{◌≡◌, ◌++◌, codes, OnOk};
 ghost use Rattle.report_writing.specs.Report.{kind_name, rank_of};
-ghost use Rattle.report_writing.specs.Samples.{label};
+ghost use Rattle.report_writing.specs.Samples.{label, labels_of, count_sample_or_none};
 ghost use Rattle.report_writing.specs.LifeMetrics.{life_count_name, life_count, rank_label_of, life_labels};
 ghost use Rattle.report_writing.specs.LifeMetrics.{life_info, life_samples};
 
 use crate::life::{kind_name, rank_of, spread_of};
 use crate::metrics::delays::{Delays, push_delays};
 use crate::metrics::sample::{Whose, push_count_sample, push_label, push_labels, push_time_sample};
+use crate::reserved::under_of;
 use flow_book::FlowSpec;
 use sched_report::LifeNumbers;
 use std::alloc::AllocError;
@@ -33,6 +34,7 @@ pub(crate) enum LifeMetric {
     Start,
     End,
     Count(LifeCount),
+    Under,
     Delay,
 }
 
@@ -109,6 +111,22 @@ fn push_info(words: &mut Vec<u8>, place: u64, life: &LifeNumbers) -> Result<(), 
     words.extend_from_slice(b"} 1\n")
 }
 
+// The sample of a number, where there is one.
+fn push_count_or_none(
+    words: &mut Vec<u8>,
+    name: &[u8],
+    whose: Whose,
+    number: Option<u128>,
+) -> Result<(), AllocError>
+    ensures { OnOk result (words.new.items
+        ≡ words.old.items ++ count_sample_or_none name.now (labels_of whose) number) }
+{
+    match number {
+        Some(number) => push_count_sample(words, name, whose, number),
+        None => Ok(()),
+    }
+}
+
 // The samples of a metric of the life at a place.
 #[tactic(auto, unfolding(crate::specs::LifeMetrics::life_samples))]
 pub(crate) fn push_life(
@@ -138,6 +156,10 @@ pub(crate) fn push_life(
         }
         LifeMetric::Count(count) => {
             push_count_sample(words, name_of(count), whose, count_of(count, life))
+        }
+        LifeMetric::Under => {
+            let name = b"mapsched_flow_under_reservation_frames_total";
+            push_count_or_none(words, name, whose, under_of(life))
         }
         LifeMetric::Delay => {
             let name = b"mapsched_flow_delay_seconds";

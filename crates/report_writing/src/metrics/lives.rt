@@ -3,10 +3,11 @@
 ghost use Rattle.std.specs.Prelude.{◌≡◌, ◌++◌, OnOk};
 ghost use Rattle.report_writing.specs.LifeMetrics.{lives_samples, life_span_metrics, life_byte_metrics};
 ghost use Rattle.report_writing.specs.LifeMetrics.{life_request_metrics, life_lost_metrics, life_delay_metrics};
-ghost use Rattle.report_writing.specs.LifeMetrics.{lives_metrics};
+ghost use Rattle.report_writing.specs.LifeMetrics.{life_under_metrics, lives_metrics};
 
 use crate::metrics::life::{LifeCount, LifeMetric, push_life};
 use crate::metrics::sample::{Measure, push_heading};
+use crate::reserved::is_any_reserved;
 use sched_report::LifeNumbers;
 use std::alloc::AllocError;
 
@@ -151,6 +152,25 @@ fn push_lost(words: &mut Vec<u8>, ticks: u32, lives: &[LifeNumbers]) -> Result<(
     push_samples(words, ticks, LifeMetric::Count(LifeCount::Replaced), lives)
 }
 
+// At how many starts of MAPs they waited under their minimum reserved rates, where one has such a rate.
+#[tactic(auto, unfolding(crate::specs::LifeMetrics::life_under_metrics))]
+fn push_under(words: &mut Vec<u8>, ticks: u32, lives: &[LifeNumbers]) -> Result<(), AllocError>
+    ensures { OnOk result (words.new.items
+        ≡ words.old.items ++ life_under_metrics ticks lives.now) }
+{
+    if !is_any_reserved(lives) {
+        return Ok(());
+    }
+    push_heading(
+        words,
+        b"mapsched_flow_under_reservation_frames",
+        b"counter",
+        Measure::Pieces,
+        b"Frames at whose start the flow waited under its minimum reserved rate.",
+    )?;
+    push_samples(words, ticks, LifeMetric::Under, lives)
+}
+
 // How long those took that were served.
 #[tactic(auto, unfolding(crate::specs::LifeMetrics::life_delay_metrics))]
 fn push_delay_metrics(
@@ -184,5 +204,6 @@ pub(crate) fn push_lives_metrics(
     push_bytes(words, ticks, lives)?;
     push_requests(words, ticks, lives)?;
     push_lost(words, ticks, lives)?;
+    push_under(words, ticks, lives)?;
     push_delay_metrics(words, ticks, lives)
 }

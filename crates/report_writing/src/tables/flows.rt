@@ -28,7 +28,7 @@ pub(crate) fn order_lives(lives: &mut Vec<LifeNumbers>, all: bool) -> Result<(),
 }
 
 // The lives that are told: all, or else the first few.
-fn told_of(lives: &[LifeNumbers], all: bool) -> &[LifeNumbers]
+pub(crate) fn told_of(lives: &[LifeNumbers], all: bool) -> &[LifeNumbers]
     requires { AreFew lives.now }
     ensures told { result.now ≡ told_of all lives.now }
     ensures small { AreFew result.now }
@@ -97,7 +97,7 @@ fn push_columns(words: &mut Vec<u8>, replaced: bool) -> Result<(), AllocError>
 
 // Says how many lives there are, where some are left out.
 #[tactic(auto, unfolding(crate::specs::Flows::left_out_text))]
-fn push_left_out(words: &mut Vec<u8>, all: bool, lives: usize) -> Result<(), AllocError>
+pub(crate) fn push_left_out(words: &mut Vec<u8>, all: bool, lives: usize) -> Result<(), AllocError>
     ensures { OnOk result (words.new.items ≡ words.old.items ++ left_out_text all lives) }
 {
     if all || lives <= FEW {

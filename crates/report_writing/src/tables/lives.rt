@@ -13,7 +13,7 @@ use std::alloc::AllocError;
 
 // The kind of a flow, in seven columns.
 #[tactic(auto, unfolding(crate::specs::Flows::kind_title))]
-fn push_kind(words: &mut Vec<u8>, spec: FlowSpec) -> Result<(), AllocError>
+pub(crate) fn push_kind(words: &mut Vec<u8>, spec: FlowSpec) -> Result<(), AllocError>
     ensures { OnOk result (words.new.items ≡ words.old.items ++ kind_title spec) }
 {
     match spec {

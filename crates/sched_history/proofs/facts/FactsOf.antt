@@ -8,10 +8,11 @@ use Rattle.sched_history.specs.Facts.{HoldsAfter, FollowsAlways}
 use Rattle.sched_history.proofs.steps.LegalHistories.{EachAfter-take}
 use Rattle.sched_history.proofs.time.NextFrames.{starts_ascend}
 use Rattle.sched_history.proofs.time.AckTimes.{heard_after}
-use Rattle.sched_history.proofs.facts.SoundLives.{within_asked, within_rate, within_peak}
+use Rattle.sched_history.proofs.facts.SoundLives.{within_asked, within_rate, within_peak, within_reserved}
 use Rattle.sched_history.proofs.facts.OnTime.{on_time}
 use Rattle.sched_history.proofs.facts.Orderly.{orderly}
 use Rattle.sched_history.proofs.facts.Ranging.{ranging}
+use Rattle.sched_history.proofs.facts.ServedReserved.{serves_reserved}
 use Rattle.sched_history.proofs.facts.Settled.{settles_in_time}
 
 -- what holds after the entries of a legal history
@@ -20,11 +21,13 @@ holds_after c h lawful legal = record {
   within_asked = within_asked c h legal;
   within_rate = within_rate c h legal;
   within_peak = within_peak c h legal;
+  within_reserved = within_reserved c h legal;
   orderly = orderly c lawful h legal;
   starts_ascend = starts_ascend c h legal;
   on_time = on_time c lawful h legal;
   heard_after = heard_after c h legal;
   ranging = ranging c h legal;
+  serves_reserved = serves_reserved c h legal;
   settles = settles_in_time c h legal;
 }
 

@@ -167,8 +167,8 @@ module _ (c : Config) (d : Demand) (met : List Met) (table : List Placed) (same 
   timely-map : (header : Header) (ack : ℕ) (plan : List Allocation) → EachAfter (Stands c d) [] plan
       → AreMetAt met plan → KeepsTimes c table met (replies.Built (map_of c d header ack plan))
   timely-map header ack plan each are =
-      let tail : List Element = pending c (flows_after d.start plan d.flows) in
-      let flows : List LiveFlow = flows_after d.start plan d.flows in
+      let tail : List Element = pending c (flows_after c d.start plan d.flows) in
+      let flows : List LiveFlow = flows_after c d.start plan d.flows in
       let asking : List LiveFlow = filter (is_shown c.pending flows) flows in (
         (λ (periodic : IsPeriodic c met (head_for c d.settles) 0). absurd
             (let good = periodic.to_flow in let bad = head-unaddressed c d.settles in cc)),

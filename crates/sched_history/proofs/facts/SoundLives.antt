@@ -9,16 +9,17 @@ use Rattle.std.proofs.lemmas.List.{append-nil, drop_all}
 use Rattle.minislots.specs.declared.config.Config.{Config}
 use Rattle.flow_book.specs.declared.batches.Batches.{Batches}
 use Rattle.sched_calls.specs.declared.spec.FlowSpec.{FlowSpec}
-use Rattle.sched_calls.specs.FlowSpec.{rate_of, burst_of, peak_of}
+use Rattle.sched_calls.specs.FlowSpec.{rate_of, burst_of, peak_of, reserved_of, reserved_burst_of}
 use Rattle.sched_calls.specs.declared.spec.TheConstants.{PEAK_BURST}
 use Rattle.flow_book.specs.declared.flow.Grant.{Grant}
 use Rattle.flow_book.specs.Flows.{LiveFlow, granted}
-use Rattle.flow_book.specs.Book.{has_ceiling_of, has_peak_of}
+use Rattle.flow_book.specs.Book.{has_ceiling_of, has_peak_of, has_reserve_of}
 use Rattle.flow_book.specs.Ceiling.{KeepsCeiling}
 use Rattle.flow_book.specs.Entry.{IsSoundFlow}
 use Rattle.sched_calls.specs.declared.frame_map.FrameMap.{FrameMap}
 use Rattle.map_build.specs.declared.purpose.Allocation.{Allocation}
-use Rattle.map_build.specs.Plan.{Demand, grants_to}
+use Rattle.map_build.specs.Plan.{Demand, grants_to, with_grants}
+use Rattle.map_build.proofs.FlowsAfter.{with_grants-is}
 use Rattle.sched_calls.specs.declared.call.Call.{Call}
 use Rattle.sched_calls.specs.declared.call.Call.TheVariants as calls
 use Rattle.sched_calls.specs.declared.reply.Reply.{Reply}
@@ -30,7 +31,7 @@ use Rattle.sched_history.specs.Life.{Life, life_of, flow_in_life, sids, flows_of
 use Rattle.sched_history.specs.Time.{next_after, ack_after}
 use Rattle.sched_history.specs.Reserves.{header_after}
 use Rattle.sched_history.specs.History.{demand_after, IsNextMap, map_by, IsStep, IsLegal}
-use Rattle.sched_history.specs.Facts.{IsWithinAsked, IsWithinRate, IsWithinPeak}
+use Rattle.sched_history.specs.Facts.{IsWithinAsked, IsWithinRate, IsWithinPeak, IsWithinReserved}
 use Rattle.sched_history.proofs.steps.LegalHistories as legal
 use Rattle.sched_history.proofs.steps.LegalHistories.{change_by_step, legal_induction}
 use Rattle.sched_history.proofs.lives.LivesAfter.{with_since, life_of-stays, life_of-begins, life_of-ends}
@@ -82,6 +83,9 @@ ceilings-common spec other same = (grind (arith, nat_tests), grind (arith, nat_t
 peaks-common : AreCommon has_peak_of peak_of (λ spec. PEAK_BURST)
 peaks-common spec other same = (grind (arith, nat_tests), refl)
 
+reserves-common : AreCommon has_reserve_of reserved_of reserved_burst_of
+reserves-common spec other same = (grind (arith, nat_tests), grind (arith, nat_tests))
+
 module _ (c : Config) (same : FlowSpec → FlowSpec → Bool) (rate burst : FlowSpec → ℕ)
     (common : AreCommon same rate burst) (grants : List Grant) where
   -- the grants of a flow keep the ceiling of its parameters, of which so many came before its period
@@ -115,6 +119,8 @@ sound_then : (c : Config) (f : LiveFlow) (given : Option Admission) (replaced : 
           else f.earlier;
       peak_earlier = if option_map_or (λ a. not (has_peak_of f.spec a.spec)) given false then length f.grants
           else f.peak_earlier;
+      reserved_earlier = if option_map_or (λ a. not (has_reserve_of f.spec a.spec)) given false then length f.reserved
+          else f.reserved_earlier;
     })
 sound_then c f given replaced more batches is = record {
   sound = record {
@@ -122,12 +128,17 @@ sound_then c f given replaced more batches is = record {
     kept = keeps-then c has_ceiling_of rate_of burst_of ceilings-common f.grants f.spec f.earlier given is.sound.kept;
     peak_kept = keeps-then c has_peak_of peak_of (λ spec. PEAK_BURST) peaks-common f.grants f.spec f.peak_earlier given
         is.sound.peak_kept;
+    reserved_kept = keeps-then c has_reserve_of reserved_of reserved_burst_of reserves-common f.reserved f.spec
+        f.reserved_earlier given is.sound.reserved_kept;
   };
   begun = record {
     sustained = begun-then (option_map_or (λ a. not (has_ceiling_of f.spec a.spec)) given false) (length f.grants)
         f.earlier is.begun.sustained;
     peak = begun-then (option_map_or (λ a. not (has_peak_of f.spec a.spec)) given false) (length f.grants)
         f.peak_earlier is.begun.peak;
+    reserved = begun-then (option_map_or (λ a. not (has_reserve_of f.spec a.spec)) given false) (length f.reserved)
+        f.reserved_earlier is.begun.reserved;
+    among = is.begun.among;
   };
 }
 
@@ -139,8 +150,14 @@ sound_more c f more batches is = record {
     within = omega (arith, is.sound.within);
     kept = is.sound.kept;
     peak_kept = is.sound.peak_kept;
+    reserved_kept = is.sound.reserved_kept;
   };
-  begun = record { sustained = is.begun.sustained; peak = is.begun.peak };
+  begun = record {
+    sustained = is.begun.sustained;
+    peak = is.begun.peak;
+    reserved = is.begun.reserved;
+    among = is.begun.among;
+  };
 }
 
 -- a flow without grants is sound
@@ -150,8 +167,14 @@ sound_new c sid life new = rw new (record {
     within = omega arith;
     kept = λ some i j le within. absurd (omega arith);
     peak_kept = λ some i j le within. absurd (omega arith);
+    reserved_kept = λ some i j le within. absurd (omega arith);
   };
-  begun = record { sustained = omega arith; peak = omega arith };
+  begun = record {
+    sustained = omega arith;
+    peak = omega arith;
+    reserved = omega arith;
+    among = λ slot started. tt;
+  };
 })
 
 ungranted : (sid : ℕ) (reply : Reply) → map_by reply ≡ None → grants_by sid reply ≡ []
@@ -161,8 +184,8 @@ ungranted sid reply none = refl
 module _ (c : Config) (h : List Entry) (sid : ℕ) (life : Life) (lives : life_of sid h ≡ Some life)
     (sound : IsSoundLife c (flow_in_life c sid life)) where
   -- the grants of the next MAP keep a live flow sound
-  sound_map : (m : FrameMap) → IsNextMap c h m → IsSoundLife c
-      (record (flow_in_life c sid life) { grants = (flow_in_life c sid life).grants ++ grants_of_map sid m })
+  sound_map : (m : FrameMap) → IsNextMap c h m
+      → IsSoundLife c (with_grants c (grants_of_map sid m) (flow_in_life c sid life))
   sound_map m next =
       let plan : List Allocation = next.0 in
       let d : Demand = demand_after c h in
@@ -171,7 +194,7 @@ module _ (c : Config) (h : List Entry) (sid : ℕ) (life : Life) (lives : life_o
       (plan-HasBytes c d plan next.1) in
       rw grants
       (sound_plan c d (flow_in_life c sid life)
-      (flows_of-alone c h sid life lives) [] plan next.1.each (rw append-nil sound))
+      (flows_of-alone c h sid life lives) [] plan next.1.each sound)
 
   sound_still : (e : Entry) → map_by e.reply ≡ None → IsSoundLife c (grown_by c e (flow_in_life c sid life))
   sound_still e none =
@@ -192,7 +215,9 @@ module _ (c : Config) (h : List Entry) (sid : ℕ) (life : Life) (lives : life_o
       rw (is, (unasked e.call m).0, (unasked e.call m).1)
       (sound_more c (record (flow_in_life c sid life) {
         grants = (flow_in_life c sid life).grants ++ grants_of_map sid m;
-      }) (added_by c sid e.call (replies.Built m)) _ (sound_map m next))
+        reserved = (with_grants c (grants_of_map sid m) (flow_in_life c sid life)).reserved;
+      }) (added_by c sid e.call (replies.Built m)) _
+      (subst (IsSoundLife c) (with_grants-is c (grants_of_map sid m) (flow_in_life c sid life)) (sound_map m next)))
 
   -- so does each legal entry
   sound_grown : (e : Entry) → IsStep c h e.call e.reply → IsSoundLife c (grown_by c e (flow_in_life c sid life))
@@ -255,3 +280,9 @@ module _ (c : Config) where
   pub within_peak : (h : List Entry) → IsLegal c h → AllByRecursion (IsWithinPeak c) (flows_of c h)
   within_peak h legal = all-chosen (IsWithinPeak c) (λ sid. option_map (flow_in_life c sid) (life_of sid h)) sids
       (λ sid f is. (flow_sound h sid f legal is).peak_kept)
+
+  -- and its reserved grants its reservation
+  pub within_reserved : (h : List Entry) → IsLegal c h → AllByRecursion (IsWithinReserved c) (flows_of c h)
+  within_reserved h legal =
+      all-chosen (IsWithinReserved c) (λ sid. option_map (flow_in_life c sid) (life_of sid h)) sids
+      (λ sid f is. (flow_sound h sid f legal is).reserved_kept)

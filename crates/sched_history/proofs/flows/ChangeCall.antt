@@ -9,7 +9,7 @@ use Rattle.minislots.specs.declared.stamp.Stamp.{Stamp}
 use Rattle.sched_calls.specs.declared.spec.FlowSpec.{FlowSpec}
 use Rattle.sched_calls.specs.declared.placement.Placement.{Placement}
 use Rattle.flow_book.specs.Flows.{LiveFlow}
-use Rattle.flow_book.specs.Book.{changed, has_ceiling_of, has_peak_of, with_spec}
+use Rattle.flow_book.specs.Book.{changed, has_ceiling_of, has_peak_of, has_reserve_of, with_spec}
 use Rattle.periodic.specs.Placement.{Placed}
 use Rattle.periodic.specs.Table.{placed_at as new_placed, with_placed, without as without_placed}
 use Rattle.sched_calls.specs.declared.call.Call.TheVariants as calls
@@ -38,6 +38,8 @@ changed_flow : (b : Bool) (given : Admission) (f : LiveFlow) → record f {
       then length f.grants else f.earlier;
   peak_earlier = if option_map_or (λ a. not (has_peak_of f.spec a.spec)) (if b then Some given else None) false
       then length f.grants else f.peak_earlier;
+  reserved_earlier = if option_map_or (λ a. not (has_reserve_of f.spec a.spec)) (if b then Some given else None) false
+      then length f.reserved else f.reserved_earlier;
 } ≡ (if b then with_spec given.spec f else f)
 changed_flow true given f =
     let none : f.asked + 0 ≡ f.asked = omega arith in
@@ -46,6 +48,7 @@ changed_flow true given f =
       append-nil f.grants,
       begun (has_ceiling_of f.spec given.spec) (length f.grants) f.earlier,
       begun (has_peak_of f.spec given.spec) (length f.grants) f.peak_earlier,
+      begun (has_reserve_of f.spec given.spec) (length f.reserved) f.reserved_earlier,
     ) refl
 changed_flow false given f = let none : f.asked + 0 ≡ f.asked = omega arith in rw (none, append-nil f.grants) refl
 
@@ -58,6 +61,9 @@ changed_this : (sid : ℕ) (given : Admission) (f : LiveFlow) → record f {
   peak_earlier = if option_map_or (λ a. not (has_peak_of f.spec a.spec))
       (if sid == f.sid then Some given else None) false
       then length f.grants else f.peak_earlier;
+  reserved_earlier = if option_map_or (λ a. not (has_reserve_of f.spec a.spec))
+      (if sid == f.sid then Some given else None) false
+      then length f.reserved else f.reserved_earlier;
 } ≡ (if f.sid == sid then with_spec given.spec f else f)
 changed_this sid given f = rw (eqb-sym sid f.sid) (changed_flow (f.sid == sid) given f)
 
@@ -80,7 +86,8 @@ module _ (stamp : Stamp) (h : List Entry) (sid : ℕ) (spec : FlowSpec) (place :
   abbrev change : Entry
   change = record { stamp = stamp; call = calls.Change sid spec; reply = replies.Changed place }
 
-  -- after a change the flow has these parameters, and with another ceiling, or peak rate, begins a period of it
+  -- after a change the flow has these parameters, and with another ceiling, peak rate or
+  -- reservation begins a period of it
   pub flows_of-change : (c : Config) → flows_of c
       (h ++ record { stamp = stamp; call = calls.Change sid spec; reply = replies.Changed place } ∷ [])
       ≡ changed sid (with_spec spec) (flows_of c h)

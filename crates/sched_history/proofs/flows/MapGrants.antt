@@ -85,6 +85,6 @@ pub grants_of_map-plan : (sid : ℕ) (c : Config) (d : Demand) (header : Header)
     → AllByRecursion (λ a. HasBytes a.purpose) plan
     → grants_of_map sid (map_of c d header ack plan) ≡ grants_to d.start sid plan
 grants_of_map-plan sid c d header ack plan has =
-    let behind : List Element = null_element c ∷ pending c (flows_after d.start plan d.flows) in
+    let behind : List Element = null_element c ∷ pending c (flows_after c d.start plan d.flows) in
     rw (grant_by-none sid d.start (head_for c d.settles))
     (zip-plan sid d.start c plan behind (map (λ e. 0) behind) has (zip-none sid d.start behind))

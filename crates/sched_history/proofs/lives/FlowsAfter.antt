@@ -10,7 +10,9 @@ use Rattle.flow_book.specs.declared.flow.Grant.{Grant}
 use Rattle.flow_book.specs.declared.batches.Batches.{Batches}
 use Rattle.flow_book.specs.Batches.{no_batches}
 use Rattle.flow_book.specs.Flows.{LiveFlow, bytes_of, granted}
-use Rattle.flow_book.specs.Book.{has_ceiling_of, has_peak_of}
+use Rattle.flow_book.specs.Reserved.{with_grant}
+use Rattle.flow_book.specs.Book.{has_ceiling_of, has_peak_of, has_reserve_of}
+use Rattle.map_build.specs.Plan.{with_grants}
 use Rattle.sched_calls.specs.declared.spec.FlowSpec.{FlowSpec}
 use Rattle.sched_calls.specs.declared.placement.Placement.{Placement}
 use Rattle.periodic.specs.Placement.{Placed}
@@ -23,6 +25,7 @@ use Rattle.sched_history.specs.Latest.{Found, up_to, latest}
 use Rattle.sched_history.specs.Life.{Admission, turn_by, Life, life_of, added_by, added_in, replaced_by, asked_in}
 use Rattle.sched_history.specs.Life.{grants_by, grants_since, batches_by, batches_after, batches_in, change_by}
 use Rattle.sched_history.specs.Life.{given_after, given_in, changes_ceiling, period_after, period_of, earlier_in}
+use Rattle.sched_history.specs.Life.{Reservation, reservation_by, reservation_after}
 use Rattle.sched_history.specs.Life.{rest_by, rests_in, flow_in_life, placed_in_life, sids, flows_of, table_of}
 use Rattle.sched_history.proofs.lists.Latests.{with_after, latest-says, latest-silent, or_else, said-push, said-cons}
 use Rattle.sched_history.proofs.lists.Latests.{up_to-push, up_to-none}
@@ -52,6 +55,8 @@ grown_by c e f = record f {
   grants = f.grants ++ grants_by f.sid e.reply;
   earlier = earlier_then has_ceiling_of f.sid e f.spec f.earlier (length f.grants);
   peak_earlier = earlier_then has_peak_of f.sid e f.spec f.peak_earlier (length f.grants);
+  reserved = (with_grants c (grants_by f.sid e.reply) f).reserved;
+  reserved_earlier = earlier_then has_reserve_of f.sid e f.spec f.reserved_earlier (length f.reserved);
 }
 
 -- the grants in these entries and one more
@@ -190,6 +195,28 @@ earlier-more same sid e life =
     ∙ earlier-by sid life.since (period_of same sid life) e (changes_ceiling same sid (given_in sid life).spec e)
     (changes-ungranted same sid (given_in sid life).spec e (change_by sid e.call e.reply) refl)
 
+-- the reservation after some entries and one more
+reservation_after-push : (c : Config) (sid : ℕ) (given : Admission) (r : Reservation) (before entries : List Entry)
+    (e : Entry) → reservation_after c sid given r before (entries ++ e ∷ [])
+    ≡ reservation_by c sid (given_after sid given entries).spec (before ++ entries)
+    (reservation_after c sid given r before entries) e
+reservation_after-push c sid given r before [] e = rw append-nil refl
+reservation_after-push c sid given r before (d ∷ entries) e =
+    let next = given_after sid given (d ∷ []) in
+    let gives : given_after sid given (d ∷ entries) ≡ given_after sid next entries =
+    said-cons (λ x. change_by sid x.call x.reply) given d entries
+    ∙ ap (λ g. given_after sid g entries) (sym (said-cons (λ x. change_by sid x.call x.reply) given d [])) in
+    let rest =
+    reservation_after-push c sid next (reservation_by c sid given.spec before r d) (before ++ d ∷ []) entries e in
+    rw gives (rw append_assoc at rest)
+
+-- what the reserved grants are does not depend on the other periods, or on the batches
+reserved-free : (c : Config) (gs : List Grant) (f : LiveFlow) (batches : Batches) (earlier peak : ℕ)
+    → (with_grants c gs (record f { batches = batches; earlier = earlier; peak_earlier = peak })).reserved
+    ≡ (with_grants c gs f).reserved
+reserved-free c [] f batches earlier peak = refl
+reserved-free c (g ∷ gs) f batches earlier peak = reserved-free c gs (with_grant c g f) batches earlier peak
+
 -- what a life has with one entry more
 pub given_in-more : (sid : ℕ) (e : Entry) (life : Life)
     → given_in sid (with_since e life) ≡ or_else (change_by sid e.call e.reply) (given_in sid life)
@@ -208,6 +235,8 @@ flow_in_life-more c sid e life =
       grants_since-push sid life.since e,
       earlier-more has_ceiling_of sid e life,
       earlier-more has_peak_of sid e life,
+      reservation_after-push c sid life.admission (record { reserved = []; earlier = 0 }) [] life.since e,
+      reserved-free c (grants_by sid e.reply) (flow_in_life c sid life) no_batches 0 0,
     ) refl
 
 grown-map : (c : Config) (sid : ℕ) (e : Entry) (o : Option Life)
@@ -293,8 +322,8 @@ module _ (h : List Entry) (e : Entry) where
 
 -- a flow of which nothing is new is the same
 same_flow : (f : LiveFlow) (change : Option Admission) (replaced : Option ℕ) (added : ℕ) (batches : Batches)
-    (grants : List Grant) → change ≡ None → replaced ≡ None → added ≡ 0 → batches ≡ f.batches → grants ≡ []
-    → record f {
+    (grants : List Grant) (c : Config) → change ≡ None → replaced ≡ None → added ≡ 0 → batches ≡ f.batches
+    → grants ≡ [] → record f {
       spec = option_map_or (λ a. a.spec) change f.spec;
       asked = option_map_or (λ bytes. granted f + bytes) replaced (f.asked + added);
       batches = batches;
@@ -303,8 +332,11 @@ same_flow : (f : LiveFlow) (change : Option Admission) (replaced : Option ℕ) (
           else f.earlier;
       peak_earlier = if option_map_or (λ a. not (has_peak_of f.spec a.spec)) change false then length f.grants
           else f.peak_earlier;
+      reserved = (with_grants c grants f).reserved;
+      reserved_earlier = if option_map_or (λ a. not (has_reserve_of f.spec a.spec)) change false then length f.reserved
+          else f.reserved_earlier;
     } ≡ f
-same_flow f change replaced added batches grants unchanged unreplaced none same nothing =
+same_flow f change replaced added batches grants c unchanged unreplaced none same nothing =
     let more : f.asked + added ≡ f.asked = omega arith in
     rw (unchanged, unreplaced, more, same, nothing, append-nil f.grants) refl
 
@@ -328,5 +360,5 @@ flows_of-quiet c h e leaves = flows_of-grown c h e leaves.turns
     ∙ map-same (grown_by c e) (flows_of c h)
     (λ f. same_flow f (change_by f.sid e.call e.reply) (replaced_by c f.sid e.call e.reply)
     (added_by c f.sid e.call e.reply) (batches_by c f.sid e.call e.reply f.batches f.asked (granted f))
-    (grants_by f.sid e.reply) (leaves.changes f.sid) (leaves.replaces f.sid) (leaves.adds f.sid)
+    (grants_by f.sid e.reply) c (leaves.changes f.sid) (leaves.replaces f.sid) (leaves.adds f.sid)
     (leaves.batches f.sid f.asked (granted f) f.batches) (leaves.grants f.sid))

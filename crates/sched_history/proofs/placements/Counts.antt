@@ -51,7 +51,7 @@ admitted-pairs c h (Unsolicited size interval jitter grants) placement answers =
     placed-pairs c h (Unsolicited size interval jitter grants) placement answers
 admitted-pairs c h (Polled interval jitter rate burst peak) placement answers =
     placed-pairs c h (Polled interval jitter rate burst peak) placement answers
-admitted-pairs c h (BestEffort priority rate burst peak) placement answers = unplaced-pairs placement answers
+admitted-pairs c h (BestEffort priority rate burst peak reserved reserved-burst) placement answers = unplaced-pairs placement answers
 
 step-pairs : (c : Config) (h : List Entry) (spec : FlowSpec) (placement : Option Placement) (o : Option Refusal)
     → MatchOption o (AnswersAdmit c h spec (replies.Admitted placement))
@@ -123,7 +123,7 @@ life_of-pairs c h sid life legal is =
 no_grants : (spec : FlowSpec) → is_periodic spec ≡ false → grants_of spec ≡ 0
 no_grants (Unsolicited size interval jitter grants) aperiodic = absurd cc
 no_grants (Polled interval jitter rate burst peak) aperiodic = absurd cc
-no_grants (BestEffort priority rate burst peak) aperiodic = refl
+no_grants (BestEffort priority rate burst peak reserved reserved-burst) aperiodic = refl
 
 -- a life's flow has grants where it has a place
 grants-placed : (sid : ℕ) (spec : FlowSpec) (rests : Bool) (placement : Option Placement)

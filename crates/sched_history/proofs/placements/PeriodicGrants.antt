@@ -1,6 +1,6 @@
 -- The grants per interval of the live flows, in every legal history.
 use Rattle.std.proofs.Common.{◌≡◌, ℕ, ◌+◌, ◌<◌, ◌≤◌, Bool, true, false, not, nat_lt, ◌==◌, if◌then◌else◌}
-use Rattle.std.proofs.Common.{cond, List, [], ◌∷◌, ◌++◌, map, filter, refl, subst, inl, inr, arith}
+use Rattle.std.proofs.Common.{cond, List, [], ◌∷◌, ◌++◌, map, filter, refl, ap, subst, inl, inr, arith}
 use Rattle.std.specs.List.{AllByRecursion}
 use Rattle.std.proofs.lemmas.Bool.{cases_eq}
 use Rattle.std.proofs.lemmas.Bool.Decides.{nat_tests}
@@ -14,7 +14,8 @@ use Rattle.sched_calls.specs.FlowSpec.{is_periodic, grants_of}
 use Rattle.flow_book.specs.Flows.{LiveFlow}
 use Rattle.flow_book.specs.Book.{Ascend, with_flow, without, changed, new_flow, with_asked, with_replaced}
 use Rattle.flow_book.specs.Book.{with_spec}
-use Rattle.map_build.specs.Plan.{flow_after}
+use Rattle.map_build.specs.Plan.{grants_to, flow_after}
+use Rattle.map_build.proofs.FlowsAfter.{with_grants-is}
 use Rattle.sched_calls.specs.declared.reply.Entry.{Entry}
 use Rattle.sched_history.specs.Life.{flows_of}
 use Rattle.sched_history.specs.Time.{next_after}
@@ -73,7 +74,7 @@ changed-few : (spec : FlowSpec) (n others most : ℕ) → n ≤ others + grants_
     → (is_periodic spec ≡ true → others + grants_of spec ≤ most) → others ≤ most → n ≤ most
 changed-few (Unsolicited size interval jitter grants) n others most sum room few = omega (arith, sum, room refl)
 changed-few (Polled interval jitter rate burst peak) n others most sum room few = omega (arith, sum, room refl)
-changed-few (BestEffort priority rate burst peak) n others most sum room few = omega (arith, sum, few)
+changed-few (BestEffort priority rate burst peak reserved reserved-burst) n others most sum room few = omega (arith, sum, few)
 
 -- a flow of another SID stays
 same-above : (sid : ℕ) (spec : FlowSpec) (f : LiveFlow) → sid < f.sid
@@ -114,7 +115,7 @@ few-more : (spec : FlowSpec) (n most : ℕ) → (is_periodic spec ≡ true → n
     → grants_of spec + n ≤ most
 few-more (Unsolicited size interval jitter grants) n most room few = omega (arith, room refl)
 few-more (Polled interval jitter rate burst peak) n most room few = omega (arith, room refl)
-few-more (BestEffort priority rate burst peak) n most room few = omega (arith, few)
+few-more (BestEffort priority rate burst peak reserved reserved-burst) n most room few = omega (arith, few)
 
 module _ (c : Config) (lawful : IsLawful c) where
   few-after : (h new : List Entry) → EntryChange c h new → periodic_grants c h ≤ c.periodic
@@ -143,7 +144,8 @@ module _ (c : Config) (lawful : IsLawful c) where
             rw flows (omega (arith, few, sum_by-filter own (λ f. not (f.sid == sid)) (flows_of c h)))
         | Described m map flows next most ↦ rw (
           flows,
-          sum_by-map own (flow_after (next_after c h) map.0) (flows_of c h) (λ f. refl),
+          sum_by-map own (flow_after c (next_after c h) map.0) (flows_of c h)
+              (λ f. ap own (with_grants-is c (grants_to (next_after c h) f.sid map.0) f)),
         ) few
         | Skipped start flows next later whole most ↦ rw flows few
       ]

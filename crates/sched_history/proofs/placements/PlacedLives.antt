@@ -90,7 +90,7 @@ answered_place c h (Unsolicited size interval jitter grants) placement p is answ
     placed_by c h (Unsolicited size interval jitter grants) placement p refl is answers
 answered_place c h (Polled interval jitter rate burst peak) placement p is answers =
     placed_by c h (Polled interval jitter rate burst peak) placement p refl is answers
-answered_place c h (BestEffort priority rate burst peak) placement p is answers = absurd (cc)
+answered_place c h (BestEffort priority rate burst peak reserved reserved-burst) placement p is answers = absurd (cc)
 
 -- a placement that was lawful stays one that was, as the next frame goes on
 later_placed : (c : Config) (slot later : ℕ) (spec : FlowSpec) (p : Placement) → slot ≤ later → WasPlaced c slot spec p

@@ -29,7 +29,7 @@ past-frame c (f ∷ flows) = (refl, past-frame c flows)
 module _ (c : Config) (d : Demand) where
   -- the elements of the MAP of a plan behind its head
   abbrev rest : List Allocation → List Element
-  rest plan = map (element_of c) plan ++ null_element c ∷ pending c (flows_after d.start plan d.flows)
+  rest plan = map (element_of c) plan ++ null_element c ∷ pending c (flows_after c d.start plan d.flows)
 
   -- behind an element that begins before it, a plan's elements ascend up to the Null
   ascend-plan : (e : Element) (before plan : List Allocation) → EachAfter (Stands c d) before plan
@@ -64,22 +64,22 @@ module _ (c : Config) (d : Demand) where
       → IsPlan c d plan → HasFront c (elements_of c d plan)
   HasFront-plan plan below some long sids places stations is = record {
     allocations = map (element_of c) plan;
-    behind = pending c (flows_after d.start plan d.flows);
+    behind = pending c (flows_after c d.start plan d.flows);
     whole = ap (λ b. head_for c b ∷ rest plan) (sym (is_quiet-head c d.settles (rest plan)));
     alone = λ quiet. ap (map (element_of c)) (is.quiet (sym (is_quiet-head c d.settles (rest plan)) ∙ quiet));
     one_null = (elements_of-encodable c d plan below sids places stations is.each
         (plan-within c d plan long is)).one_null;
     ascend = subst (λ b. OffsetsAscend (head_for c b ∷ (map (element_of c) plan ++ null_element c ∷ [])))
         (sym (is_quiet-head c d.settles (rest plan))) (ascend-head d.settles refl plan some long is);
-    past = past-frame c (filter (is_shown c.pending (flows_after d.start plan d.flows))
-        (flows_after d.start plan d.flows));
+    past = past-frame c (filter (is_shown c.pending (flows_after c d.start plan d.flows))
+        (flows_after c d.start plan d.flows));
   }
 
   -- it has a byte count for each element
   pub length-bytes_of_plan : (plan : List Allocation)
       → length (bytes_of_plan c d plan) ≡ length (elements_of c d plan)
   length-bytes_of_plan plan =
-      let tail : List Element = pending c (flows_after d.start plan d.flows) in
+      let tail : List Element = pending c (flows_after c d.start plan d.flows) in
       omega (
         arith,
         length-append (map (bytes_in c) plan) (0 ∷ map (λ (e : Element). 0) tail),

@@ -6,7 +6,8 @@ use Rattle.std.proofs.lemmas.List.{append-nil}
 use Rattle.std.proofs.lemmas.List.Elements.{filter_map-append}
 use Rattle.minislots.specs.declared.config.Config.{Config}
 use Rattle.flow_book.specs.declared.flow.Grant.{Grant}
-use Rattle.flow_book.specs.Flows.{LiveFlow, with_grant}
+use Rattle.flow_book.specs.Flows.{LiveFlow}
+use Rattle.flow_book.specs.Reserved.{with_grant}
 use Rattle.flow_book.specs.Choice.{IsAmount}
 use Rattle.flow_book.specs.Entry.{IsSoundFlow}
 use Rattle.flow_book.specs.Limits.{HasPeriods}
@@ -17,7 +18,8 @@ use Rattle.map_build.specs.declared.purpose.Purpose.{Purpose}
 use Rattle.map_build.specs.declared.purpose.Purpose.TheVariants.{DataGrant}
 use Rattle.map_build.specs.EachAfter.{EachAfter}
 use Rattle.map_build.specs.Purpose.{grant_to}
-use Rattle.map_build.specs.Plan.{Demand, flow_after, flows_after, room_at, IsOfClass, Stands}
+use Rattle.map_build.specs.Plan.{Demand, grants_to, flow_after, flows_after, room_at, IsOfClass, Stands}
+use Rattle.map_build.proofs.FlowsAfter.{with_grants-more, with_grants-sid}
 use Rattle.sched_history.proofs.lists.Members.{IsImage, Contains-map}
 
 -- A flow is sound, and its grants before the present period of each of its ceilings are some of its first
@@ -27,32 +29,31 @@ pub record IsSoundLife (c : Config) (f : LiveFlow) : Type 0 where
 
 -- a flow is sound with a grant more of the amount
 sound_with : (c : Config) (f : LiveFlow) (start room bytes : ℕ) → IsSoundLife c f → IsAmount c f start room bytes
-    → IsSoundLife c (with_grant (record { start = start; bytes = bytes }) f)
+    → IsSoundLife c (with_grant c (record { start = start; bytes = bytes }) f)
 sound_with c f start room bytes is amount = record {
   sound = granted-sound c start bytes room f is.sound is.begun amount.allowed;
-  begun = periods-more f (record { start = start; bytes = bytes }) is.begun;
+  begun = periods-more c f (record { start = start; bytes = bytes }) is.begun;
 }
 
 -- a flow after one allocation more, that grants it nothing, or a grant
-after_other : (start : ℕ) (before : List Allocation) (a : Allocation) (f : LiveFlow)
+after_other : (c : Config) (start : ℕ) (before : List Allocation) (a : Allocation) (f : LiveFlow)
     → grant_to start f.sid a.purpose a.offset ≡ None
-    → flow_after start (before ++ a ∷ []) f ≡ flow_after start before f
-after_other start before a f none =
+    → flow_after c start (before ++ a ∷ []) f ≡ flow_after c start before f
+after_other c start before a f none =
     rw (
       filter_map-append (λ (a : Allocation). grant_to start f.sid a.purpose a.offset) before (a ∷ []),
       none,
       append-nil,
     ) refl
 
-after_grant : (start : ℕ) (before : List Allocation) (a : Allocation) (f : LiveFlow) (g : Grant)
+after_grant : (c : Config) (start : ℕ) (before : List Allocation) (a : Allocation) (f : LiveFlow) (g : Grant)
     → grant_to start f.sid a.purpose a.offset ≡ Some g
-    → flow_after start (before ++ a ∷ []) f ≡ with_grant g (flow_after start before f)
-after_grant start before a f g some =
+    → flow_after c start (before ++ a ∷ []) f ≡ with_grant c g (flow_after c start before f)
+after_grant c start before a f g some =
     rw (
       filter_map-append (λ (a : Allocation). grant_to start f.sid a.purpose a.offset) before (a ∷ []),
       some,
-      append_assoc,
-    ) refl
+    ) (with_grants-more c (grants_to start f.sid before) (g ∷ []) f)
 
 module _ (c : Config) (d : Demand) (f : LiveFlow)
     (alone : (g : LiveFlow) → Contains d.flows g → g.sid ≡ f.sid → g ≡ f) where
@@ -61,46 +62,48 @@ module _ (c : Config) (d : Demand) (f : LiveFlow)
   start = d.start
 
   -- the flow after these is the only one of its SID
-  only_after : (before : List Allocation) (g : LiveFlow) → Contains (flows_after d.start before d.flows) g
+  only_after : (before : List Allocation) (g : LiveFlow) → Contains (flows_after c d.start before d.flows) g
       → g.sid ≡ f.sid
-      → flow_after start before f ≡ g
+      → flow_after c start before f ≡ g
   only_after before g live same =
-      let image : IsImage (flow_after d.start before) d.flows g =
-      Contains-map (flow_after d.start before) d.flows g live in
-      ap (flow_after start before)
-      (sym (alone image.origin image.member (ap (λ (g : LiveFlow). g.sid) image.same ∙ same))) ∙ image.same
+      let image : IsImage (flow_after c d.start before) d.flows g =
+      Contains-map (flow_after c d.start before) d.flows g live in
+      ap (flow_after c start before)
+      (sym (alone image.origin image.member
+      (sym (with_grants-sid c (grants_to d.start image.origin.sid before) image.origin)
+      ∙ ap (λ (g : LiveFlow). g.sid) image.same ∙ same))) ∙ image.same
 
   sound_grant : (before : List Allocation) (a : Allocation) (other bytes : ℕ) (same : Bool) → other == f.sid ≡ same
       → a.purpose ≡ DataGrant other bytes
       → IsOfClass c d before a.offset a.slots (DataGrant other bytes)
-      → IsSoundLife c (flow_after start before f)
-      → IsSoundLife c (flow_after start (before ++ a ∷ []) f)
+      → IsSoundLife c (flow_after c start before f)
+      → IsSoundLife c (flow_after c start (before ++ a ∷ []) f)
   sound_grant before a other bytes false test is stands sound =
       let none : grant_to start f.sid (DataGrant other bytes) a.offset ≡ None = rw test refl in
-      rw (after_other start before a f (ap (λ p. grant_to start f.sid p a.offset) is ∙ none)) sound
+      rw (after_other c start before a f (ap (λ p. grant_to start f.sid p a.offset) is ∙ none)) sound
   sound_grant before a other bytes true test is stands sound =
       let g : LiveFlow = stands.1 in
       let some : grant_to start f.sid (DataGrant other bytes) a.offset
       ≡ Some (record { start = start + a.offset; bytes = bytes }) =
       rw test refl in
-      let them : flow_after start before f ≡ g =
+      let them : flow_after c start before f ≡ g =
       only_after before g stands.3.live (stands.2 ∙ eqb-true other f.sid test) in
-      rw (after_grant start before a f (record { start = start + a.offset; bytes = bytes })
+      rw (after_grant c start before a f (record { start = start + a.offset; bytes = bytes })
       (ap (λ p. grant_to start f.sid p a.offset) is ∙ some))
-      (sound_with c (flow_after start before f) (start + a.offset) (room_at c d.spots a.offset) bytes sound
+      (sound_with c (flow_after c start before f) (start + a.offset) (room_at c d.spots a.offset) bytes sound
       (subst (λ g. IsAmount c g (start + a.offset) (room_at c d.spots a.offset) bytes) (sym them) stands.4))
 
   sound_more : (before : List Allocation) (a : Allocation) (purpose : Purpose) → a.purpose ≡ purpose
-      → IsOfClass c d before a.offset a.slots purpose → IsSoundLife c (flow_after start before f)
-      → IsSoundLife c (flow_after start (before ++ a ∷ []) f)
+      → IsOfClass c d before a.offset a.slots purpose → IsSoundLife c (flow_after c start before f)
+      → IsSoundLife c (flow_after c start (before ++ a ∷ []) f)
   sound_more before a (DataGrant sid bytes) is stands sound =
       sound_grant before a sid bytes (sid == f.sid) refl is stands sound
   sound_more before a purpose is stands sound =
-      rw (after_other start before a f (ap (λ p. grant_to start f.sid p a.offset) is)) sound
+      rw (after_other c start before a f (ap (λ p. grant_to start f.sid p a.offset) is)) sound
 
   -- a flow that is sound before some allocations is sound after them
   pub sound_plan : (before plan : List Allocation) → EachAfter (Stands c d) before plan
-      → IsSoundLife c (flow_after start before f) → IsSoundLife c (flow_after start (before ++ plan) f)
+      → IsSoundLife c (flow_after c start before f) → IsSoundLife c (flow_after c start (before ++ plan) f)
   sound_plan before [] each sound = rw append-nil sound
   sound_plan before (a ∷ plan) each sound = rw append_assoc at
       (sound_plan (before ++ a ∷ []) plan each.1 (sound_more before a a.purpose refl each.0.purpose sound))

@@ -121,7 +121,7 @@ module _ (c : Config) (d : Demand) where
   pub there-plan : (plan : List Allocation) → IsPlan c d plan
       → AllByRecursion (IsThere c d.waiting (elements_of c d plan) (bytes_of_plan c d plan)) (met_by_plan plan)
   there-plan plan is =
-      let tail : List Element = pending c (flows_after d.start plan d.flows) in
+      let tail : List Element = pending c (flows_after c d.start plan d.flows) in
       all-later c d.waiting (head_of c d) 0 (map (element_of c) plan ++ null_element c ∷ tail)
       (map (bytes_in c) plan ++ 0 ∷ map (λ e. 0) tail) (met_by_plan plan)
       (there-filled d.settles refl plan tail (0 ∷ map (λ e. 0) tail) is)
@@ -188,7 +188,7 @@ pub no-other-plan : (c : Config) (d : Demand) (plan : List Allocation)
     → AllByRecursion (λ e. IsMetThere (met_by_plan plan) e.0 e.1)
     (zip (elements_of c d plan) (bytes_of_plan c d plan))
 no-other-plan c d plan =
-    let flows : List LiveFlow = flows_after d.start plan d.flows in
+    let flows : List LiveFlow = flows_after c d.start plan d.flows in
     let tail : List Element = pending c flows in (
       other-there (met_by_plan plan) (head_of c d) 0 (head-other c d.settles),
       met-plan c (met_by_plan plan) plan (null_element c ∷ tail) (0 ∷ map (λ e. 0) tail)

@@ -36,7 +36,7 @@ abbrev unasked : List Entry
 unasked = admitted ∷ granted ∷ []
 
 abbrev unasked_life : Life
-unasked_life = record { admission = record { spec = BestEffort 3 0 0 0; placement = None }; since = granted ∷ [] }
+unasked_life = record { admission = record { spec = BestEffort 3 0 0 0 0 0; placement = None }; since = granted ∷ [] }
 
 -- is past what it asked
 pub a_grant_past_the_requests_is_refused : HoldsAfter base unasked → ⊥
@@ -49,11 +49,11 @@ a_grant_past_the_requests_is_refused holds =
 
 -- the grant of 100 bytes to a flow with a burst of 64
 abbrev limited : Entry
-limited = entry 1 (Admit 17 (BestEffort 3 1 64 0)) (Admitted None)
+limited = entry 1 (Admit 17 (BestEffort 3 1 64 0 0 0)) (Admitted None)
 
 abbrev limited_life : Life
 limited_life =
-    record { admission = record { spec = BestEffort 3 1 64 0; placement = None }; since = asked ∷ granted ∷ [] }
+    record { admission = record { spec = BestEffort 3 1 64 0 0 0; placement = None }; since = asked ∷ granted ∷ [] }
 
 -- is past its ceiling
 pub a_grant_past_the_ceiling_is_refused : HoldsAfter base (limited ∷ asked ∷ granted ∷ []) → ⊥
@@ -71,10 +71,10 @@ at_once = entry 2 (Ask 0 17 (Bytes 2000) 801) Taken ∷ entry 3 (Build 800) (Bui
     (element 0x3fff 1 0 ∷ element 17 6 4 ∷ element 0 7 40 ∷ []) (0 ∷ 1523 ∷ 0 ∷ []))) ∷ []
 
 abbrev peaking : List Entry
-peaking = entry 1 (Admit 17 (BestEffort 3 0 0 64000)) (Admitted None) ∷ at_once
+peaking = entry 1 (Admit 17 (BestEffort 3 0 0 64000 0 0)) (Admitted None) ∷ at_once
 
 abbrev peaking_life : Life
-peaking_life = record { admission = record { spec = BestEffort 3 0 0 64000; placement = None }; since = at_once }
+peaking_life = record { admission = record { spec = BestEffort 3 0 0 64000 0 0; placement = None }; since = at_once }
 
 -- is past its peak rate
 pub a_grant_past_the_peak_is_refused : HoldsAfter base peaking → ⊥

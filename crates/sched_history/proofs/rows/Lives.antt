@@ -19,7 +19,7 @@ use Rattle.sched_history.proofs.rows.TwoMaps.{entry, built, the_first_map_may_fo
 
 -- 64000 bits in a second, and bursts of 600 bytes
 abbrev spec : FlowSpec
-spec = BestEffort 3 64000 600 0
+spec = BestEffort 3 64000 600 0 0 0
 
 -- the first life: an admission and a request
 abbrev begun : List Entry

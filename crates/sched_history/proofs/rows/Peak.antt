@@ -24,7 +24,7 @@ use Rattle.sched_history.proofs.rows.TwoMaps.{entry, built, the_first_map_may_fo
 
 -- no ceiling, and a peak rate of 64000 bits in a second
 abbrev spec : FlowSpec
-spec = BestEffort 3 0 0 64000
+spec = BestEffort 3 0 0 64000 0 0
 
 -- its request
 abbrev request : Entry

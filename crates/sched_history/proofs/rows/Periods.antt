@@ -24,7 +24,7 @@ changed ticket spec = entry ticket (Change 17 spec) (Changed None)
 -- as many again
 abbrev flow_with : List Entry → LiveFlow
 flow_with changes = flow_in_life base 17 (record {
-  admission = record { spec = BestEffort 3 64000 1600 64000; placement = None };
+  admission = record { spec = BestEffort 3 64000 1600 64000 0 0; placement = None };
   since = entry 2 (Ask 0 17 (Bytes 3000) 801) Taken ∷ entry 3 (Build 800) (Built first_grant) ∷ (changes
       ++ entry 6 (Build 840) (Built second_grant) ∷ []);
 })
@@ -35,36 +35,36 @@ second = grant 884 544 ∷ []
 
 -- a change of the peak rate alone begins a period of that, and leaves the other
 pub another_peak_begins_its_period :
-    (in_peak_period (flow_with (changed 4 (BestEffort 3 64000 1600 128000) ∷ [])) ≡ second)
-    × (in_period (flow_with (changed 4 (BestEffort 3 64000 1600 128000) ∷ [])) ≡ second_grants)
+    (in_peak_period (flow_with (changed 4 (BestEffort 3 64000 1600 128000 0 0) ∷ [])) ≡ second)
+    × (in_period (flow_with (changed 4 (BestEffort 3 64000 1600 128000 0 0) ∷ [])) ≡ second_grants)
 another_peak_begins_its_period = (refl, refl)
 
 -- a change of the rate alone, or of the burst, the other way round
 pub another_rate_leaves_the_peak :
-    (in_peak_period (flow_with (changed 4 (BestEffort 3 128000 1600 64000) ∷ [])) ≡ second_grants)
-    × (in_period (flow_with (changed 4 (BestEffort 3 128000 1600 64000) ∷ [])) ≡ second)
+    (in_peak_period (flow_with (changed 4 (BestEffort 3 128000 1600 64000 0 0) ∷ [])) ≡ second_grants)
+    × (in_period (flow_with (changed 4 (BestEffort 3 128000 1600 64000 0 0) ∷ [])) ≡ second)
 another_rate_leaves_the_peak = (refl, refl)
 
 pub another_burst_leaves_the_peak :
-    (in_peak_period (flow_with (changed 4 (BestEffort 3 64000 2000 64000) ∷ [])) ≡ second_grants)
-    × (in_period (flow_with (changed 4 (BestEffort 3 64000 2000 64000) ∷ [])) ≡ second)
+    (in_peak_period (flow_with (changed 4 (BestEffort 3 64000 2000 64000 0 0) ∷ [])) ≡ second_grants)
+    × (in_period (flow_with (changed 4 (BestEffort 3 64000 2000 64000 0 0) ∷ [])) ≡ second)
 another_burst_leaves_the_peak = (refl, refl)
 
 -- a change of the priority leaves both, and one of both begins both
 pub another_priority_leaves_both :
-    (in_peak_period (flow_with (changed 4 (BestEffort 5 64000 1600 64000) ∷ [])) ≡ second_grants)
-    × (in_period (flow_with (changed 4 (BestEffort 5 64000 1600 64000) ∷ [])) ≡ second_grants)
+    (in_peak_period (flow_with (changed 4 (BestEffort 5 64000 1600 64000 0 0) ∷ [])) ≡ second_grants)
+    × (in_period (flow_with (changed 4 (BestEffort 5 64000 1600 64000 0 0) ∷ [])) ≡ second_grants)
 another_priority_leaves_both = (refl, refl)
 
 pub others_of_both_begin_both :
-    (in_peak_period (flow_with (changed 4 (BestEffort 3 128000 1600 128000) ∷ [])) ≡ second)
-    × (in_period (flow_with (changed 4 (BestEffort 3 128000 1600 128000) ∷ [])) ≡ second)
+    (in_peak_period (flow_with (changed 4 (BestEffort 3 128000 1600 128000 0 0) ∷ [])) ≡ second)
+    × (in_period (flow_with (changed 4 (BestEffort 3 128000 1600 128000 0 0) ∷ [])) ≡ second)
 others_of_both_begin_both = (refl, refl)
 
 -- a peak rate that is changed and then as before begins a period all the same
 pub a_peak_as_before_begins_a_period :
-    (in_peak_period (flow_with (changed 4 (BestEffort 3 64000 1600 0) ∷ changed 5 (BestEffort 3 64000 1600 64000) ∷ []))
+    (in_peak_period (flow_with (changed 4 (BestEffort 3 64000 1600 0 0 0) ∷ changed 5 (BestEffort 3 64000 1600 64000 0 0) ∷ []))
     ≡ second)
-    × (in_period (flow_with (changed 4 (BestEffort 3 64000 1600 0) ∷ changed 5 (BestEffort 3 64000 1600 64000) ∷ []))
+    × (in_period (flow_with (changed 4 (BestEffort 3 64000 1600 0 0 0) ∷ changed 5 (BestEffort 3 64000 1600 64000 0 0) ∷ []))
     ≡ second_grants)
 a_peak_as_before_begins_a_period = (refl, refl)

@@ -29,7 +29,7 @@ both_heard = one_heard ++ entry 3 (Heard 1 840) Noted ∷ []
 
 -- then a MAP and an admission
 abbrev all : List Entry
-all = both_heard ++ entry 4 (Build 840) (Built (idle_map pair 880 840)) ∷ entry 5 (Admit 17 (BestEffort 3 0 0 0))
+all = both_heard ++ entry 4 (Build 840) (Built (idle_map pair 880 840)) ∷ entry 5 (Admit 17 (BestEffort 3 0 0 0 0 0))
     (Admitted None) ∷ []
 
 -- one receiver's progress does not move the acknowledge time

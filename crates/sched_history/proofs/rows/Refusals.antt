@@ -19,7 +19,7 @@ pub a_request_heard_too_late_is_refused : IsStep base (admitted ∷ []) (Ask 0 1
 a_request_heard_too_late_is_refused = refl
 
 -- a live SID is not admitted again
-pub a_live_sid_is_refused : IsStep base (admitted ∷ []) (Admit 17 (BestEffort 3 0 0 0)) (Refused SidLive)
+pub a_live_sid_is_refused : IsStep base (admitted ∷ []) (Admit 17 (BestEffort 3 0 0 0 0 0)) (Refused SidLive)
 a_live_sid_is_refused = refl
 
 -- SID 0 and SIDs above 8191 are no flow's
@@ -77,13 +77,13 @@ unfolding first_fault
 an_admission_without_size_is_refused = refl
 
 -- priority 8
-pub an_admission_above_the_priorities_is_refused : IsStep base [] (Admit 5 (BestEffort 8 0 0 0))
+pub an_admission_above_the_priorities_is_refused : IsStep base [] (Admit 5 (BestEffort 8 0 0 0 0 0))
     (Refused (BadFlow Priority))
 unfolding first_fault
 an_admission_above_the_priorities_is_refused = refl
 
 -- a burst of 63 bytes, below the quantum of 64
-pub an_admission_below_the_quantum_is_refused : IsStep base [] (Admit 5 (BestEffort 7 1 63 0)) (Refused (BadFlow Burst))
+pub an_admission_below_the_quantum_is_refused : IsStep base [] (Admit 5 (BestEffort 7 1 63 0 0 0)) (Refused (BadFlow Burst))
 unfolding first_fault
 an_admission_below_the_quantum_is_refused = refl
 

@@ -19,10 +19,10 @@ use Rattle.sched_history.proofs.rows.TwoMaps.{entry, built, the_first_map_may_fo
 
 -- two admissions
 abbrev first : Entry
-first = entry 1 (Admit 20 (BestEffort 3 0 0 0)) (Admitted None)
+first = entry 1 (Admit 20 (BestEffort 3 0 0 0 0 0)) (Admitted None)
 
 abbrev second : Entry
-second = entry 2 (Admit 21 (BestEffort 3 0 0 0)) (Admitted None)
+second = entry 2 (Admit 21 (BestEffort 3 0 0 0 0 0)) (Admitted None)
 
 -- and two requests
 abbrev asks : List Entry
@@ -42,10 +42,10 @@ other_turn = entry 6 (Build 840) (Built second_turn)
 -- the two lives
 abbrev lower_life : List Entry → Life
 lower_life rest =
-    record { admission = record { spec = BestEffort 3 0 0 0; placement = None }; since = second ∷ (asks ++ rest) }
+    record { admission = record { spec = BestEffort 3 0 0 0 0 0; placement = None }; since = second ∷ (asks ++ rest) }
 
 abbrev higher_life : List Entry → Life
-higher_life rest = record { admission = record { spec = BestEffort 3 0 0 0; placement = None }; since = asks ++ rest }
+higher_life rest = record { admission = record { spec = BestEffort 3 0 0 0 0 0; placement = None }; since = asks ++ rest }
 
 -- no third SID has a life at any time
 third : (sid : ℕ) → sid ≢ 20 → sid ≢ 21 → (life_of sid (asked []) ≡ None) × (life_of sid (asked (turn ∷ [])) ≡ None)
@@ -54,15 +54,15 @@ third sid not_lower not_higher =
     rw (ne_eqb 20 sid (λ e. not_lower (sym e)), ne_eqb 21 sid (λ e. not_higher (sym e))) (refl, refl, refl)
 
 -- the flows are admitted
-admits : IsStep base (built ∷ []) (Admit 20 (BestEffort 3 0 0 0)) (Admitted None)
+admits : IsStep base (built ∷ []) (Admit 20 (BestEffort 3 0 0 0 0 0)) (Admitted None)
 unfolding first_fault
 admits = rw (flows_of-none base (built ∷ []) (λ sid. refl)) refl
 
-admits_another : IsStep base (built ∷ first ∷ []) (Admit 21 (BestEffort 3 0 0 0)) (Admitted None)
+admits_another : IsStep base (built ∷ first ∷ []) (Admit 21 (BestEffort 3 0 0 0 0 0)) (Admitted None)
 unfolding first_fault
 admits_another =
     rw (flows_of-one base (built ∷ first ∷ []) 20
-    (record { admission = record { spec = BestEffort 3 0 0 0; placement = None }; since = [] }) (lit≤ tt) (lit≤ tt) refl
+    (record { admission = record { spec = BestEffort 3 0 0 0 0 0; placement = None }; since = [] }) (lit≤ tt) (lit≤ tt) refl
     (λ sid other. rw (ne_eqb 20 sid (λ e. other (sym e))))) refl
 
 -- the lower SID is served

@@ -27,7 +27,7 @@ built = entry 0 (Build 760) (Built first_map)
 
 -- SID 17 is admitted
 abbrev pub admitted : Entry
-admitted = entry 1 (Admit 17 (BestEffort 3 0 0 0)) (Admitted None)
+admitted = entry 1 (Admit 17 (BestEffort 3 0 0 0 0 0)) (Admitted None)
 
 -- it asks for 100 bytes
 abbrev pub asked : Entry
@@ -47,7 +47,7 @@ the_first_map_may_follow_nothing = (
 )
 
 -- then a flow may be admitted
-a_flow_may_be_admitted : IsStep base (built ∷ []) (Admit 17 (BestEffort 3 0 0 0)) (Admitted None)
+a_flow_may_be_admitted : IsStep base (built ∷ []) (Admit 17 (BestEffort 3 0 0 0 0 0)) (Admitted None)
 unfolding first_fault
 a_flow_may_be_admitted = rw (flows_of-none base (built ∷ []) (λ sid. refl)) refl
 
@@ -57,7 +57,7 @@ a_flow_may_ask = refl
 
 -- its life by then
 abbrev life : Life
-life = record { admission = record { spec = BestEffort 3 0 0 0; placement = None }; since = asked ∷ [] }
+life = record { admission = record { spec = BestEffort 3 0 0 0 0 0; placement = None }; since = asked ∷ [] }
 
 -- no other SID has a life
 others : (sid : ℕ) → sid ≢ 17 → life_of sid (built ∷ admitted ∷ asked ∷ []) ≡ None

@@ -29,4 +29,4 @@ is_quiet-next c h m next =
     let d : Demand = demand_after c h in
     ap (λ (n : FrameMap). is_quiet n.wire.elements) next.2
     ∙ is_quiet-head c d.settles
-    (map (element_of c) next.0 ++ null_element c ∷ pending c (flows_after d.start next.0 d.flows))
+    (map (element_of c) next.0 ++ null_element c ∷ pending c (flows_after c d.start next.0 d.flows))

@@ -85,7 +85,7 @@ module _ (s : State) (h : List Entry) (is_after : IsStateAfter s h) where
         ≡ flows_of s.config (h ++ record { stamp = stamp; call = Build now; reply = Built p.map } ∷ [])
     flows_of-planned =
         let has = plan-HasBytes s.config (next_demand s) frame.plan frame.is_plan in
-        frame.flows ∙ ap (flows_after s.next frame.plan) is_after.flows
+        frame.flows ∙ ap (flows_after s.config s.next frame.plan) is_after.flows
         ∙ sym (flows_of-build_plan stamp h now p.map s.config (next_demand s) s.header
         (least (take s.config.receivers s.progress)) frame.plan has frame.map)
 

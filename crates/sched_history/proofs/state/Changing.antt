@@ -44,14 +44,14 @@ use Rattle.sched_history.proofs.steps.Passed.{IsKnown, ChangesFlow, passed-chang
 pub alike-periodic : (spec other : FlowSpec) → is_kind_of spec other ≡ true → is_periodic other ≡ is_periodic spec
 alike-periodic (Unsolicited size interval jitter grants) (Unsolicited size' interval' jitter' grants') kind = refl
 alike-periodic (Polled interval jitter rate burst peak) (Polled interval' jitter' rate' burst' peak') kind = refl
-alike-periodic (BestEffort priority rate burst peak) (BestEffort priority' rate' burst' peak') kind = refl
+alike-periodic (BestEffort priority rate burst peak reserved reserved-burst) (BestEffort priority' rate' burst' peak' reserved' reserved-burst') kind = refl
 alike-periodic spec other kind = absurd cc
 
 -- and both take requests, or neither
 pub alike-takes : (spec other : FlowSpec) → is_kind_of spec other ≡ true → takes_requests spec ≡ takes_requests other
 alike-takes (Unsolicited size interval jitter grants) (Unsolicited size' interval' jitter' grants') kind = refl
 alike-takes (Polled interval jitter rate burst peak) (Polled interval' jitter' rate' burst' peak') kind = refl
-alike-takes (BestEffort priority rate burst peak) (BestEffort priority' rate' burst' peak') kind = refl
+alike-takes (BestEffort priority rate burst peak reserved reserved-burst) (BestEffort priority' rate' burst' peak' reserved' reserved-burst') kind = refl
 alike-takes spec other kind = absurd cc
 
 -- a flow that keeps its place is periodic

@@ -97,7 +97,7 @@ IsFlat-told : (c : Config) (h : List Entry) (call : Call) (r : Reply) → is_tol
     → IsFlat r
 IsFlat-told c h (Admit sid (Unsolicited size interval jitter grants)) r told answers = absurd cc
 IsFlat-told c h (Admit sid (Polled interval jitter rate burst peak)) r told answers = absurd cc
-IsFlat-told c h (Admit sid (BestEffort priority rate burst peak)) r told answers =
+IsFlat-told c h (Admit sid (BestEffort priority rate burst peak reserved reserved-burst)) r told answers =
     IsFlat-as r (replies.Admitted None) answers (flat.Admitted, refl)
 IsFlat-told c h (Remove sid) r told answers = IsFlat-as r replies.Removed answers (flat.Removed, refl)
 IsFlat-told c h (Ask receiver sid amount heard) r told answers = IsFlat-as r replies.Taken answers (flat.Taken, refl)
@@ -139,7 +139,7 @@ pub told-one : (c : Config) (h : List Entry) (call : Call) (r r' : Reply) → is
     → Answers c h call r' → r ≡ r'
 told-one c h (Admit sid (Unsolicited size interval jitter grants)) r r' told answers other = absurd cc
 told-one c h (Admit sid (Polled interval jitter rate burst peak)) r r' told answers other = absurd cc
-told-one c h (Admit sid (BestEffort priority rate burst peak)) r r' told answers other = answers ∙ sym other
+told-one c h (Admit sid (BestEffort priority rate burst peak reserved reserved-burst)) r r' told answers other = answers ∙ sym other
 told-one c h (Remove sid) r r' told answers other = answers ∙ sym other
 told-one c h (Ask receiver sid amount heard) r r' told answers other = answers ∙ sym other
 told-one c h (Heard receiver upto) r r' told answers other = answers ∙ sym other

@@ -193,14 +193,14 @@ pub answers-best_effort : (c : Config) (h : List Entry) (spec : FlowSpec) → is
     → AnswersAdmit c h spec (replies.Admitted None)
 answers-best_effort c h (Unsolicited size interval jitter grants) aperiodic = absurd cc
 answers-best_effort c h (Polled interval jitter rate burst peak) aperiodic = absurd cc
-answers-best_effort c h (BestEffort priority rate burst peak) aperiodic = refl
+answers-best_effort c h (BestEffort priority rate burst peak reserved reserved-burst) aperiodic = refl
 
 -- a periodic flow is admitted with its place
 pub answers-periodic : (c : Config) (h : List Entry) (spec : FlowSpec) (reply : Reply) → is_periodic spec ≡ true
     → PlacesOrRefuses c h spec reply → AnswersAdmit c h spec reply
 answers-periodic c h (Unsolicited size interval jitter grants) reply periodic answers = answers
 answers-periodic c h (Polled interval jitter rate burst peak) reply periodic answers = answers
-answers-periodic c h (BestEffort priority rate burst peak) reply periodic answers = absurd cc
+answers-periodic c h (BestEffort priority rate burst peak reserved reserved-burst) reply periodic answers = absurd cc
 
 -- a placement in the table is one after the history
 pub placement-after : (s : State) (h : List Entry) (spec : FlowSpec) (p : Placement) → IsStateAfter s h
@@ -218,7 +218,7 @@ IsPlaceable-after s h (Unsolicited size interval jitter grants) p is_after lawfu
     (p, placement-after s h (Unsolicited size interval jitter grants) p is_after lawful)
 IsPlaceable-after s h (Polled interval jitter rate burst peak) p is_after lawful =
     (p, placement-after s h (Polled interval jitter rate burst peak) p is_after lawful)
-IsPlaceable-after s h (BestEffort priority rate burst peak) p is_after lawful = tt
+IsPlaceable-after s h (BestEffort priority rate burst peak reserved reserved-burst) p is_after lawful = tt
 
 -- where the table has no place for it there is none after the history
 pub no_placement-after : (s : State) (h : List Entry) (spec : FlowSpec) → IsStateAfter s h

@@ -23,7 +23,7 @@ use Rattle.sched_history.proofs.state.Present.{find-after, placement-some}
 voice-periodic : (spec : FlowSpec) → is_unsolicited spec ≡ true → is_periodic spec ≡ true
 voice-periodic (Unsolicited size interval jitter grants) voice = refl
 voice-periodic (Polled interval jitter rate burst peak) voice = absurd cc
-voice-periodic (BestEffort priority rate burst peak) voice = absurd cc
+voice-periodic (BestEffort priority rate burst peak reserved reserved-burst) voice = absurd cc
 
 placed-voice : (sid : ℕ) (o : Option Life) → ((life : Life) → o ≡ Some life → IsPaired (given_in sid life))
     → option_map_or (λ life. is_unsolicited (given_in sid life).spec) o false ≡ true

@@ -51,7 +51,7 @@ pub record Carries (c : Config) (h new : List Entry) (P Q : LiveFlow → Type 0)
   pub changes : (spec : FlowSpec) (f : LiveFlow) → P f → Q (with_spec spec f)
   pub begins : (sid : ℕ) (spec : FlowSpec) → Q (new_flow sid spec)
   pub grants : (m : FrameMap) (map : IsNextMap c h m) → next_after c new ≡ next_after c h + c.frame → (f : LiveFlow)
-      → P f → Q (flow_after (next_after c h) map.0 f)
+      → P f → Q (flow_after c (next_after c h) map.0 f)
 
 -- then it holds of each live flow after the entry
 pub each_after : (c : Config) (h new : List Entry) (P Q : LiveFlow → Type 0) → Carries c h new P Q
@@ -77,7 +77,7 @@ each_after c h new P Q carries change all = elim change [
       rw flows (all-filter Q (λ f. not (f.sid == sid)) (flows_of c h) (all-implied P Q
       (flows_of c h) carries.stays all))
   | Described m map flows next most ↦
-      rw flows (all-image P Q (flow_after (next_after c h) map.0) (flows_of c h) (carries.grants m map next) all)
+      rw flows (all-image P Q (flow_after c (next_after c h) map.0) (flows_of c h) (carries.grants m map next) all)
   | Skipped start flows next later aligned most ↦ rw flows (all-implied P Q (flows_of c h) carries.stays all)
 ]
 

@@ -60,7 +60,7 @@ pub data EntryChange (c : Config) (h new : List Entry) : Type 0 where
   Ended : (sid : ℕ) → flows_of c new ≡ without sid (flows_of c h) → next_after c new ≡ next_after c h
       → EntryChange c h new
   Described : (m : FrameMap) (map : IsNextMap c h m) → flows_of c new
-      ≡ flows_after (next_after c h) map.0 (flows_of c h)
+      ≡ flows_after c (next_after c h) map.0 (flows_of c h)
       → next_after c new ≡ next_after c h + c.frame → next_after c h + c.frame ≤ last_clock + most_ahead
       → EntryChange c h new
   Skipped : (start : ℕ) → flows_of c new ≡ flows_of c h → next_after c new ≡ start → next_after c h ≤ start
@@ -108,9 +108,9 @@ module _ (c : Config) (lawful : IsLawful c) (stamp : Stamp) (h : List Entry) whe
       placed sid (Unsolicited size interval jitter grants) reply may answers
   admits sid (Polled interval jitter rate burst peak) reply may answers =
       placed sid (Polled interval jitter rate burst peak) reply may answers
-  admits sid (BestEffort priority rate burst peak) reply may answers =
-      by_reply (calls.Admit sid (BestEffort priority rate burst peak)) reply (replies.Admitted None) answers
-      (admitted sid (BestEffort priority rate burst peak) None may)
+  admits sid (BestEffort priority rate burst peak reserved reserved-burst) reply may answers =
+      by_reply (calls.Admit sid (BestEffort priority rate burst peak reserved reserved-burst)) reply (replies.Admitted None) answers
+      (admitted sid (BestEffort priority rate burst peak reserved reserved-burst) None may)
 
   told : (sid asked granted left : ℕ)
       → EntryChange c h (after (calls.Status sid) (replies.Flow asked granted left))

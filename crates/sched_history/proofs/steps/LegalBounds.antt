@@ -1,6 +1,6 @@
 -- Bounds of what is live and of the next frame, in every legal history.
 use Rattle.std.proofs.Common.{◌≡◌, ℕ, ◌+◌, ◌*◌, ◌%◌, ◌≤◌, ◌<◌, not, ◌==◌, List}
-use Rattle.std.proofs.Common.{[], ◌∷◌, ◌++◌, map, length, refl, ◌∙◌, arith}
+use Rattle.std.proofs.Common.{[], ◌∷◌, ◌++◌, map, length, refl, sym, ap, ◌∙◌, subst, arith}
 use Rattle.std.proofs.Math.Nat.{add-mod_right}
 use Rattle.std.specs.List.{AllByRecursion}
 use Rattle.std.proofs.lemmas.List.{length-map, length_push}
@@ -14,6 +14,7 @@ use Rattle.flow_book.specs.Book.{new_flow}
 use Rattle.flow_book.proofs.Order.{all-implied}
 use Rattle.periodic.proofs.Joined.{all-append, all-both}
 use Rattle.map_build.specs.Plan.{grants_to}
+use Rattle.map_build.proofs.FlowsAfter.{with_grants-is}
 use Rattle.sched_calls.specs.declared.reply.Entry.{Entry}
 use Rattle.sched_history.specs.Life.{flows_of}
 use Rattle.sched_history.specs.Time.{next_after}
@@ -106,7 +107,9 @@ module _ (c : Config) (lawful : IsLawful c) where
         replaces = λ bytes heard f some few. omega (arith, more, some, few.0, few.1);
         changes = λ spec f few. omega (arith, more, few.0);
         begins = λ sid spec. omega arith;
-        grants = λ m map next f few. omega (arith, more, few.0);
+        grants = λ m map next f few.
+            let same = ap (λ (g : LiveFlow). g.asked) (with_grants-is c (grants_to (next_after c h) f.sid map.0) f) in
+            omega (arith, more, few.0, same);
       }
 
   -- each live flow asked for at most the most bytes of a request times the entries
@@ -133,10 +136,12 @@ module _ (c : Config) (lawful : IsLawful c) where
         replaces = λ bytes heard f some started. older f.grants started;
         changes = λ spec f started. older f.grants started;
         begins = λ sid spec. tt;
-        grants = λ m map next f started. all-append (λ (g : Grant). g.start < next_after c new) f.grants
-            (grants_to (next_after c h) f.sid map.0) (older f.grants started)
-            (rw next (grants_to-before c.frame (next_after c h) f.sid map.0
-            (plan-offsets c (demand_after c h) map.0 map.1)));
+        grants = λ m map next f started.
+            subst (λ gs. AllByRecursion (λ g. g.start < next_after c new) gs)
+            (sym (ap (λ (g : LiveFlow). g.grants) (with_grants-is c (grants_to (next_after c h) f.sid map.0) f)))
+            (all-append (λ (g : Grant). g.start < next_after c new) f.grants (grants_to (next_after c h) f.sid map.0)
+            (older f.grants started) (rw next (grants_to-before c.frame (next_after c h) f.sid map.0
+            (plan-offsets c (demand_after c h) map.0 map.1))));
       }
 
   -- each data grant of a live flow starts before the next frame

@@ -84,7 +84,7 @@ still_admit c h (Unsolicited size interval jitter grants) reply answers =
     still_place c h (Unsolicited size interval jitter grants) reply answers
 still_admit c h (Polled interval jitter rate burst peak) reply answers =
     still_place c h (Polled interval jitter rate burst peak) reply answers
-still_admit c h (BestEffort priority rate burst peak) reply answers = subst IsStill (sym answers) (refl, refl)
+still_admit c h (BestEffort priority rate burst peak reserved reserved-burst) reply answers = subst IsStill (sym answers) (refl, refl)
 
 still_sums : (b : Bool) (asked granted left : ℕ)
     → IsStill (if b then replies.Flow asked granted left else replies.Flow 0 0 0)

@@ -103,7 +103,7 @@ module _ (c : Config) where
               arith,
               ap (λ (m : FrameMap). m.ack) next.2,
               ack_after-ascends c h e step,
-              ack-most c.pending (ack_after c h) (flows_after (next_after c h) next.0 (flows_of c h)),
+              ack-most c.pending (ack_after c h) (flows_after c (next_after c h) next.0 (flows_of c h)),
             )))
         | Skips now start is first same ↦ rw (maps_of-unbuilt h e (ap map_by same)) old
         | Stays still ↦ rw (maps_of-unbuilt h e still.0) old

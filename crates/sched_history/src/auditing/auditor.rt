@@ -3,6 +3,7 @@
 ghost use Rattle.std.specs.Prelude.{◌≡◌, ◌<◌, ◌≤◌, ◌↔◌, ◌++◌, ◌∷◌, [], true, false, length};
 ghost use Rattle.std.specs.Prelude.{IfOk, IfErr, OnOk, OnErr, IsErrOf};
 ghost use Rattle.sched_calls.specs.declared.reply.TheConstants.{MAX_WHOLE_HISTORY};
+ghost use Rattle.sched_history.specs.Facts.{under_by};
 ghost use Rattle.sched_history.specs.History.{IsStep, IsLegal};
 ghost use Rattle.sched_calls.specs.Reply.{IsEncodable};
 ghost use Rattle.sched_history.specs.Machine.{MayLackMemory};
@@ -102,6 +103,22 @@ impl Auditor {
             ledger: &self.ledger,
         };
         present.met(self.alloc, entry)
+    }
+
+    /// The SIDs of the flows that wait for bytes under their minimum reserved rates where the MAP of an entry starts, in
+    /// order, where its reply may follow: none where it has no MAP, or one that settles. It is asked before
+    /// [`Auditor::judge`] takes the entry.
+    pub fn under(&self, entry: &Entry) -> Result<Vec<u16>, AllocError>
+        ensures under { IfOk result (λ sids. IsStep self.now.config self.now.history entry.now.call entry.now.reply
+            → sids.items ≡ under_by self.now.config self.now.history entry.now.reply) }
+        ensures memory { OnErr result
+            (MayLackMemory self.now.config self.now.history entry.now.call) }
+    {
+        let present = Present {
+            state: &self.state,
+            ledger: &self.ledger,
+        };
+        present.under(self.alloc, entry)
     }
 
     /// How many entries were taken.

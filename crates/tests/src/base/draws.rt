@@ -61,6 +61,8 @@ impl Draws {
                 rate,
                 burst,
                 peak,
+                reserved: 0,
+                reserved_burst: 0,
             },
         }
     }

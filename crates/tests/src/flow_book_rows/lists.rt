@@ -3,7 +3,8 @@
 
 ghost use Rattle.std.specs.Prelude.{◌≡◌, IfOk, IfSome};
 ghost use Rattle.std.specs.List.{AllByRecursion};
-ghost use Rattle.flow_book.specs.Flows.{flow_of, with_grant};
+ghost use Rattle.flow_book.specs.Flows.{flow_of};
+ghost use Rattle.flow_book.specs.Reserved.{with_grant};
 ghost use Rattle.flow_book.specs.Book.{IsLive, changed};
 ghost use Rattle.flow_book.specs.Choice.{HasStartedBy};
 
@@ -79,7 +80,7 @@ fn grant_most(book: &mut Book, sid: u16, start: u64, room: u32) -> Result<u32, A
     requires live { IsLive sid book.old.flows }
     requires started { IfSome (flow_of sid book.old.flows) (HasStartedBy start) }
     ensures { IfOk result (λ bytes. book.new.flows ≡
-        changed sid (with_grant (record { start = start; bytes = bytes })) book.old.flows) }
+        changed sid (with_grant book.old.config (record { start = start; bytes = bytes })) book.old.flows) }
 {
     book.reserve(1)?;
     let bytes = book.most(sid, start, room);

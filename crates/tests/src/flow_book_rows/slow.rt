@@ -35,6 +35,7 @@ fn limits_of(spec: &FlowSpec) -> (u8, u32, u32, u32) {
             rate,
             burst,
             peak,
+            ..
         } => (priority, rate, burst, peak),
     }
 }

@@ -26,6 +26,8 @@ const DATA: FlowSpec = FlowSpec::BestEffort {
     rate: 0,
     burst: 0,
     peak: 0,
+    reserved: 0,
+    reserved_burst: 0,
 };
 
 // The call of a builder with this number: every other one is a build, and between them are 50 flows that ask.

@@ -28,6 +28,16 @@ waits-requires-clause-within c =
     (all-item live c.args.flows.now c.loop-place.place c.at-flow.result.now (omega (arith, c.loop-place-test.true))
     c.at-flow.ensures (IsSoundFlow c.args.config.now) c.requires.sound.each).within
 
+pub comes_before-requires-clause-within : goal.comes_before-requires-clause-within
+comes_before-requires-clause-within c =
+    (all-item live c.args.flows.now c.loop-place.place c.at-flow.result.now (omega (arith, c.loop-place-test.true))
+    c.at-flow.ensures (IsSoundFlow c.args.config.now) c.requires.sound.each).within
+
+pub comes_before-requires-clause-started : goal.comes_before-requires-clause-started
+comes_before-requires-clause-started c =
+    all-item live c.args.flows.now c.loop-place.place c.at-flow.result.now (omega (arith, c.loop-place-test.true))
+    c.at-flow.ensures (HasStartedBy c.args.start) c.requires.started
+
 pub comes_before-requires-clause-lower : goal.comes_before-requires-clause-lower
 comes_before-requires-clause-lower c =
     let items = c.args.flows.now in
@@ -47,20 +57,26 @@ loop-place-preserved c =
     let taken = taken-item live items i f within c.at-flow.ensures in
     let keeps : KeepsSums c.args.config.now f =
     rw c.at-flow.ensures (All-from_recursion (KeepsSums c.args.config.now) items c.requires.sums i f within) in
+    let sound = all-item live items i f within c.at-flow.ensures (IsSoundFlow c.args.config.now) c.requires.sound.each in
+    let began = all-item live items i f within c.at-flow.ensures (HasStartedBy c.args.start) c.requires.started in
     let lower = lower-item items i f within c.at-flow.ensures c.requires.sound.ascending in
     elim c.if-both.branch [
       | then-both+then-is_eligible w ↦ rw (taken, w.next-is) (record {
         next = step-changes c.args.config.now c.args.start c.args.room flows f c.loop-place.next c.comes_before.result
             c.loop-place.invariant.next (w.is_eligible.ensures.0 w.if-is_eligible.true) c.comes_before.ensures
             (both-true c.waits.result c.comes_before.result c.both.result c.both.ensures w.if-both.true).1;
-        known = keeps.turn;
+        sums = keeps;
+        within = sound.within;
+        started = began;
       })
       | else-both w ↦ elim w.else-both.branch [
         | else-both-via-then-both+else-is_eligible v ↦ rw (taken, w.next-is) (record {
           next = next-passes c.args.config.now c.args.start c.args.room flows _ (live f) c.loop-place.invariant.next
               (λ may. let t : v.is_eligible.result ≡ true = v.is_eligible.ensures.1 may in
               let e : v.is_eligible.result ≡ false = v.if-is_eligible.false in cc);
-          known = c.loop-place.invariant.known;
+          sums = c.loop-place.invariant.sums;
+          within = c.loop-place.invariant.within;
+          started = c.loop-place.invariant.started;
         })
         | else-both-via-else-both v ↦ rw (taken, w.next-is) (record {
           next = elim (both-false c.waits.result c.comes_before.result c.both.result c.both.ensures v.if-both.false) [
@@ -70,7 +86,9 @@ loop-place-preserved c =
             | inr after ↦ step-stays c.args.config.now c.args.start c.args.room flows f c.loop-place.next
                 c.comes_before.result c.loop-place.invariant.next lower c.comes_before.ensures after
           ];
-          known = c.loop-place.invariant.known;
+          sums = c.loop-place.invariant.sums;
+          within = c.loop-place.invariant.within;
+          started = c.loop-place.invariant.started;
         })
       ]
     ]

@@ -1,6 +1,6 @@
 -- It goes to those served, and wants nothing in the queue any more.
 use Rattle.std.proofs.Common.{refl, ap, length, arith}
-use Rattle.flow_book.specs.declared.queue.Waiting.{Waiting}
+use Rattle.flow_book.specs.declared.waiting.Waiting.{Waiting}
 use Rattle.flow_book.proofs.InParts.{put-queued, none-set, fewer-wait, one-waits}
 use Rattle.sched_calls.proofs.Insertion.{length-put_in}
 use Rattle.flow_book.proofs.parts.put_queued.Goals as goal

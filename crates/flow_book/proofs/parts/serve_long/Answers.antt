@@ -54,6 +54,6 @@ returns-clause-next c = λ items has.
       new = c.serve_one-granted.new.waiting;
       here = here;
       next = next;
-      granted = c.serve_one-granted.ensures;
+      granted = rw c.quantum.ensures.value at c.serve_one-granted.ensures;
       put = c.put_served.ensures.put items w has.order here waits (sym c.serve_one-granted.ensures.place);
     }

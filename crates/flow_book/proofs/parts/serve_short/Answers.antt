@@ -2,9 +2,9 @@
 use Rattle.std.proofs.Common.{◌≡◌, ◌∙◌, ◌<◌, ℕ, refl, sym, ap, [], List, Some, None, slice_get, get_or, length, arith}
 use Rattle.std.proofs.lemmas.Option.{slice_get-get_or}
 use Rattle.minislots.proofs.Bounds.{bounds_of}
-use Rattle.flow_book.specs.declared.queue.Waiting.{Waiting}
+use Rattle.flow_book.specs.declared.waiting.Waiting.{Waiting}
 use Rattle.flow_book.specs.declared.parts.Standing.TheVariants.{Queued}
-use Rattle.flow_book.proofs.InParts.{queued-part, alone-next}
+use Rattle.flow_book.proofs.InParts.{queued-part, alone-next, next-alone}
 use Rattle.flow_book.proofs.Overlays.{next-begun, next-later, next-waits}
 use Rattle.flow_book.proofs.parts.serve_short.Goals as goal
 
@@ -12,15 +12,15 @@ read-here : (queue : List Waiting) (i : ℕ) (w : Waiting) → i < length queue 
     → slice_get queue i ≡ Some w
 read-here queue i w lt is = slice_get-get_or queue i w lt ∙ ap Some (sym is)
 
-pub returns-in_err-index-clause-next : goal.returns-in_err-index-clause-next
-returns-in_err-index-clause-next c = λ items short has.
+pub returns-in_err-first-clause-next : goal.returns-in_err-first-clause-next
+returns-in_err-first-clause-next c = λ items short has.
     let config = c.args.config.now in
     let queue = c.args.queue.now.items in
     let tiers = c.args.tiers.now.items in
     let part = queued-part config items tiers queue [] c.args.start c.args.room.slots has in
     rw c.from_residual.ensures
     (alone-next config items tiers queue [] c.args.start c.args.room.slots has None refl
-    ((rw (c.deref.ensures.value, c.deref-2.ensures.value) at c.in_err-index.ensures.next) items part))
+    ((rw (c.deref.ensures.value, c.deref-2.ensures.value) at c.in_err-first.ensures.next) items part))
 
 pub serve_one-granted-requires-clause-begun : goal.serve_one-granted-requires-clause-begun
 serve_one-granted-requires-clause-begun c =
@@ -29,19 +29,19 @@ serve_one-granted-requires-clause-begun c =
     let has = c.requires.started.2 in
     let queue = c.args.queue.now.items in
     let slots = c.args.room.slots in
-    let index = c.in_ok-index.index in
+    let index = c.soonest_of-index.result in
     let tiers = c.args.tiers.now.items in
     let part = queued-part config items tiers queue [] c.args.start slots has in
     let is =
-    alone-next config items tiers queue [] c.args.start slots has (Some index) refl
-    ((rw (c.deref.ensures.value, c.deref-2.ensures.value) at c.in_ok-index.ensures.next) items part) in
+    next-alone config items tiers queue [] c.args.start slots has index refl
+    ((rw (c.deref-3.ensures.value, c.deref-4.ensures.value) at c.soonest_of-index.ensures.next) items part) in
     let here =
-    read-here queue index c.index.result.now (rw c.deref.ensures.value at c.in_ok-index.ensures.within) c.index.ensures in
+    read-here queue index c.index.result.now (rw c.deref-3.ensures.value at c.soonest_of-index.ensures.within) c.index.ensures in
     next-begun config items tiers queue [] c.args.start slots (Queued index) c.index.result.now has is here
 
 pub serve_one-granted-requires-clause-most : goal.serve_one-granted-requires-clause-most
 serve_one-granted-requires-clause-most c =
-    let bounds = bounds_of c.args.config.now c.in_ok-index.ensures.lawful in
+    let bounds = bounds_of c.args.config.now c.in_ok-first.ensures.lawful in
     omega (arith, bounds.cap_most, c.requires.room)
 
 pub put_short-requires-clause-here : goal.put_short-requires-clause-here
@@ -51,15 +51,15 @@ put_short-requires-clause-here c =
     let has = c.requires.started.2 in
     let queue = c.args.queue.now.items in
     let slots = c.args.room.slots in
-    let index = c.in_ok-index.index in
+    let index = c.soonest_of-index.result in
     let w = c.index.result.now in
     let tiers = c.args.tiers.now.items in
     let part = queued-part config items tiers queue [] c.args.start slots has in
     let is =
-    alone-next config items tiers queue [] c.args.start slots has (Some index) refl
-    ((rw (c.deref.ensures.value, c.deref-2.ensures.value) at c.in_ok-index.ensures.next) items part) in
+    next-alone config items tiers queue [] c.args.start slots has index refl
+    ((rw (c.deref-3.ensures.value, c.deref-4.ensures.value) at c.soonest_of-index.ensures.next) items part) in
     let here =
-    read-here queue index w (rw c.deref.ensures.value at c.in_ok-index.ensures.within) c.index.ensures in
+    read-here queue index w (rw c.deref-3.ensures.value at c.soonest_of-index.ensures.within) c.index.ensures in
     let waits = next-waits config items queue [] c.args.start slots (Queued index) w here is in
     let late =
     next-later config items tiers queue [] c.args.start slots (Queued index) w has is here
@@ -71,15 +71,15 @@ returns-clause-next c = λ items short has.
     let config = c.args.config.now in
     let queue = c.args.queue.now.items in
     let slots = c.args.room.slots in
-    let index = c.in_ok-index.index in
+    let index = c.soonest_of-index.result in
     let w = c.index.result.now in
     let tiers = c.args.tiers.now.items in
     let part = queued-part config items tiers queue [] c.args.start slots has in
     let is =
-    alone-next config items tiers queue [] c.args.start slots has (Some index) refl
-    ((rw (c.deref.ensures.value, c.deref-2.ensures.value) at c.in_ok-index.ensures.next) items part) in
+    next-alone config items tiers queue [] c.args.start slots has index refl
+    ((rw (c.deref-3.ensures.value, c.deref-4.ensures.value) at c.soonest_of-index.ensures.next) items part) in
     let here =
-    read-here queue index w (rw c.deref.ensures.value at c.in_ok-index.ensures.within) c.index.ensures in
+    read-here queue index w (rw c.deref-3.ensures.value at c.soonest_of-index.ensures.within) c.index.ensures in
     let waits = next-waits config items queue [] c.args.start slots (Queued index) w here is in
     record {
       at = Queued index;
@@ -87,6 +87,6 @@ returns-clause-next c = λ items short has.
       new = c.serve_one-granted.new.waiting;
       here = here;
       next = is;
-      granted = c.serve_one-granted.ensures;
+      granted = rw c.quantum.ensures.value at c.serve_one-granted.ensures;
       put = (c.put_short.ensures items w short here waits (sym c.serve_one-granted.ensures.place), refl);
     }

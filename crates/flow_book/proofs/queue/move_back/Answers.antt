@@ -1,7 +1,7 @@
 -- At each step it sinks by one place, and at the end all behind it are later.
 use Rattle.std.proofs.Common.{refl, ap, ◌+◌, ◌≤◌, get_or, arith}
 use Rattle.std.proofs.lemmas.List.{get_or_default}
-use Rattle.flow_book.specs.declared.queue.Waiting.{Waiting}
+use Rattle.flow_book.specs.declared.waiting.Waiting.{Waiting}
 use Rattle.flow_book.proofs.Sinking.{sinks-more, has-sunk}
 use Rattle.flow_book.proofs.queue.move_back.Goals as goal
 use Rattle.flow_book.proofs.queue.move_back.Goals.{then-loop-at-test+else-queue-at, else-loop-at-test}

@@ -2,7 +2,7 @@
 use Rattle.std.proofs.Common.{◌≡◌, ◌==◌, sym, ap, ◌∙◌, position, remove, Some, length, arith}
 use Rattle.std.proofs.lemmas.List.{take_at, get_or_default}
 use Rattle.std.proofs.lemmas.List.Quantifiers.{position-Some}
-use Rattle.flow_book.specs.declared.queue.Waiting.{Waiting}
+use Rattle.flow_book.specs.declared.waiting.Waiting.{Waiting}
 use Rattle.flow_book.proofs.Queues.{taken-at, none-out, none-at}
 use Rattle.flow_book.proofs.Searches.{rises}
 use Rattle.flow_book.proofs.queue.move_to_turn.Goals as goal

@@ -3,7 +3,7 @@ use Rattle.std.proofs.Common.{◌≡◌, ℕ, ◌+◌, ◌++◌, subst, map, tak
 use Rattle.std.proofs.lemmas.Bool.Decides.{nat_tests}
 use Rattle.std.proofs.lemmas.List.{get_or_default}
 use Rattle.std.proofs.lemmas.List.Edits.{map_over_more}
-use Rattle.flow_book.specs.declared.queue.Waiting.{Waiting}
+use Rattle.flow_book.specs.declared.waiting.Waiting.{Waiting}
 use Rattle.flow_book.specs.Queue.{moved_up}
 use Rattle.flow_book.proofs.queue.move_up.Goals as goal
 use Rattle.flow_book.proofs.queue.move_up.Goals.{then-place-waiting, else-place-waiting}

@@ -1,7 +1,7 @@
 -- Before the first of a later turn it stands in order.
 use Rattle.std.proofs.Common.{◌≡◌, ◌∙◌, ap, sym, map-id, insert, nat_lt}
 use Rattle.std.specs.List.{position_or_len}
-use Rattle.flow_book.specs.declared.queue.Waiting.{Waiting}
+use Rattle.flow_book.specs.declared.waiting.Waiting.{Waiting}
 use Rattle.sched_calls.specs.Sids.{put_in}
 use Rattle.sched_calls.proofs.Insertion.{insert-put_in}
 use Rattle.flow_book.proofs.queue.put_in_turn.Goals as goal

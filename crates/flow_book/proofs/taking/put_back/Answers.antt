@@ -1,5 +1,5 @@
 -- Those that still wait are kept of the copy.
-use Rattle.std.proofs.Common.{◌≡◌, ◌∙◌, ◌++◌, ap, filter, rules}
+use Rattle.std.proofs.Common.{◌∙◌, ◌++◌, ap, filter, rules}
 use Rattle.std.proofs.lemmas.Fn.{filter_same}
 use Rattle.flow_book.specs.Queue.{still_waits}
 use Rattle.flow_book.proofs.taking.put_back.Goals as goal

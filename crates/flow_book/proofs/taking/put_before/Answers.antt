@@ -1,7 +1,7 @@
 -- One more of those served is put behind the queue, and where it stops none is earlier.
 use Rattle.std.proofs.Common.{◌+◌, ◌<◌, sym, ap, subst, arith}
 use Rattle.std.proofs.lemmas.List.{get_or_default}
-use Rattle.flow_book.specs.declared.queue.Waiting.{Waiting}
+use Rattle.flow_book.specs.declared.waiting.Waiting.{Waiting}
 use Rattle.flow_book.specs.Taking.{AreMerged}
 use Rattle.flow_book.proofs.Merging.{merged-served, none-earlier}
 use Rattle.flow_book.proofs.taking.put_before.Goals as goal

@@ -1,7 +1,8 @@
 -- One more has its tier, where it has one.
 use Rattle.std.proofs.Common.{◌≡◌, ◌∙◌, ◌<◌, length, slice_get, sym, ap, arith}
 use Rattle.std.proofs.lemmas.List.{length-set, get_or_default}
-use Rattle.flow_book.specs.declared.queue.Waiting.{Waiting}
+use Rattle.flow_book.specs.declared.waiting.Waiting.{Waiting}
+use Rattle.flow_book.proofs.ByTier.{told}
 use Rattle.flow_book.proofs.Numbered.{numbered-none, numbered-at, numbered-past, numbered-more, numbered-all}
 use Rattle.flow_book.proofs.Queues.{at-within}
 use Rattle.flow_book.proofs.tiers.tiers_of.Goals as goal
@@ -42,8 +43,9 @@ loop-index-preserved c =
             end = is.end ∙ sym (length-set queue i (record u { tier = n }));
             numbered = numbered-more items old queue tiers i u lt v.index_mut.ensures.value is.numbered
                 (λ none. v.if-waiting.true (sym (ap (λ (x : Waiting). x.tier) same) ∙ none)) n v.in_ok-queue.ensures.0
-                v.in_ok-queue.ensures.1 v.tier_at.result (v.tier_at.ensures.place ∙ sym (ap (λ (x : Waiting). x.place) same))
-                (λ f found. v.tier_at.ensures.peak f (ap (λ (x : Waiting). slice_get items x.place) (sym same) ∙ found));
+                v.in_ok-queue.ensures.1 v.tier_at.result
+                (λ f found. v.tier_at.ensures f (ap (λ (x : Waiting). slice_get items x.place) (sym same) ∙ found)
+                ∙ ap (λ (x : Waiting). told x.place f) (sym same));
           }))
       | else-waiting v ↦ rw (v.queue-is, v.tiers-is) (record {
         end = is.end;

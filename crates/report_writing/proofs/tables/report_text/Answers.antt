@@ -3,6 +3,7 @@ use Rattle.std.proofs.Common.{◌≡◌, ◌++◌, ℕ, Ok, ap, ◌∙◌, refl}
 use Rattle.minislots.specs.declared.config.Config.{Config}
 use Rattle.report_writing.specs.Tables.{head_text, uses_text, refused_text, ranks_text}
 use Rattle.report_writing.specs.Flows.{flows_text}
+use Rattle.report_writing.specs.ReservedTable.{reserved_lines}
 use Rattle.report_writing.specs.Report.{tells_replaced}
 use Rattle.report_writing.specs.Text.{tables_text}
 use Rattle.report_writing.proofs.Appended.{then_ok}
@@ -18,17 +19,23 @@ returns c =
     let second = c.push_uses.new.words.items in
     let third = c.push_refused.new.words.items in
     let fourth = c.push_ranks.new.words.items in
-    let end = c.push_flows.new.words.items in
+    let fifth = c.push_flows.new.words.items in
+    let end = c.push_reserved.new.words.items in
     let head = head_text ticks t in
     let uses = uses_text t.opens t.slots t.calls in
     let refused = refused_text c.refused.result.now in
     let ranks = ranks_text ticks (tells_replaced t) c.deref.result.now in
     let flows = flows_text ticks (tells_replaced t) c.args.all c.deref-2.result.now in
-    let whole : end ≡ start ++ (head ++ (uses ++ (refused ++ (ranks ++ flows)))) =
-    then_ok {E = ℕ} (Ok tt) start first end head (uses ++ (refused ++ (ranks ++ flows))) c.in_ok-push_head.ensures
-    (then_ok {E = ℕ} (Ok tt) first second end uses (refused ++ (ranks ++ flows)) c.in_ok-push_uses.ensures
-    (then_ok {E = ℕ} (Ok tt) second third end refused (ranks ++ flows) c.in_ok-push_refused.ensures
-    (then_ok {E = ℕ} (Ok tt) third fourth end ranks flows c.in_ok-push_ranks.ensures c.in_ok-push_flows.ensures))) in
+    let reserved = reserved_lines c.frame.result c.args.all c.deref-3.result.now in
+    let whole : end ≡ start ++ (head ++ (uses ++ (refused ++ (ranks ++ (flows ++ reserved))))) =
+    then_ok {E = ℕ} (Ok tt) start first end head (uses ++ (refused ++ (ranks ++ (flows ++ reserved))))
+    c.in_ok-push_head.ensures
+    (then_ok {E = ℕ} (Ok tt) first second end uses (refused ++ (ranks ++ (flows ++ reserved)))
+    c.in_ok-push_uses.ensures
+    (then_ok {E = ℕ} (Ok tt) second third end refused (ranks ++ (flows ++ reserved)) c.in_ok-push_refused.ensures
+    (then_ok {E = ℕ} (Ok tt) third fourth end ranks (flows ++ reserved) c.in_ok-push_ranks.ensures
+    (then_ok {E = ℕ} (Ok tt) fourth fifth end flows reserved c.in_ok-push_flows.ensures
+    c.in_ok-push_reserved.ensures)))) in
     record {
       refused = c.refused.result.now;
       counts = c.refused.ensures;
@@ -46,5 +53,9 @@ returns c =
             c.totals-totals.ensures,
             c.deref.ensures.value,
             c.deref-2.ensures.value,
+            c.frame.ensures.value,
+            ap (λ (k : Config). k.frame) c.requires,
+            c.deref-3.ensures.value,
+            c.keep_reserved.ensures.kept,
           ) refl;
     }

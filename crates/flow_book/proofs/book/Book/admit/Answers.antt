@@ -19,6 +19,7 @@ new-sound c sid spec = record {
   within = omega arith;
   kept = λ positive i j le lt. absurd (omega arith);
   peak_kept = λ positive i j le lt. absurd (omega arith);
+  reserved_kept = λ positive i j le lt. absurd (omega arith);
 }
 
 pub place_above-place-requires : goal.place_above-place-requires

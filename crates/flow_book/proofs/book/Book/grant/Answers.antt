@@ -1,18 +1,17 @@
 -- The flow in its place has one grant more, for which there was room.
 use Rattle.std.proofs.Common.{◌∙◌, ap, arith}
-use Rattle.flow_book.specs.Flows.{LiveFlow, with_grant}
-use Rattle.flow_book.specs.Entry.{live}
-use Rattle.flow_book.proofs.Periods.{begun-by}
+use Rattle.flow_book.specs.Flows.{LiveFlow}
+use Rattle.flow_book.specs.Reserved.{with_grant}
 use Rattle.flow_book.proofs.Places.{StandsAt, placed}
 use Rattle.flow_book.proofs.Changes.{placed-changed, placed-is_sound}
 use Rattle.flow_book.proofs.Sums.{placed-sums, granted-book}
 use Rattle.flow_book.proofs.Queues.{same-but}
 use Rattle.flow_book.proofs.Rooms.{room-placed, room-replaced, room-others}
 use Rattle.flow_book.proofs.book.Book.grant.Goals as goal
-use Rattle.flow_book.proofs.book.Book.grant.Goals.{After-at_mut}
+use Rattle.flow_book.proofs.book.Book.grant.Goals.{After-at_mut, After-config}
 
 -- the flow stands at its place before the grant
-found : (c : goal.After-at_mut)
+found : (c : goal.After-config)
     → StandsAt c.args.sid c.self.inside.flows c.place-place.result c.at_mut.result.now
 found c =
     placed c.args.sid c.self.inside.flows c.place-place.result c.at_mut.result.now
@@ -34,14 +33,18 @@ grant-requires-clause-asked c =
     let keeps = placed-sums c.self.inside.channel c.args.sid items c.place-place.result f c.self.invariant.book is in
     omega (arith, may.asked, sound.within, keeps.granted)
 
-pub grant-requires-clause-begun : goal.grant-requires-clause-begun
-grant-requires-clause-begun c =
-    let is = found c in
-    let started = rw (← c.self.view_is, is.found) at c.requires.started in
-    let keeps =
-    placed-sums c.self.inside.channel c.args.sid c.self.inside.flows c.place-place.result c.at_mut.result.now
-    c.self.invariant.book is in
-    begun-by c.self.inside.channel (live c.at_mut.result.now) c.at_mut.result.now.limits c.args.start keeps.limits started
+pub grant-requires-clause-sums : goal.grant-requires-clause-sums
+grant-requires-clause-sums c =
+    rw c.config.ensures (placed-sums c.self.inside.channel c.args.sid c.self.inside.flows c.place-place.result
+    c.at_mut.result.now c.self.invariant.book (found c))
+
+pub grant-requires-clause-started : goal.grant-requires-clause-started
+grant-requires-clause-started c = rw (← c.self.view_is, (found c).found) at c.requires.started
+
+pub grant-requires-clause-keeps : goal.grant-requires-clause-keeps
+grant-requires-clause-keeps c =
+    let may = rw (← c.self.view_is, (found c).found) at c.requires.lawful in
+    rw c.config.ensures may.taken.ceiling
 
 pub follow-self-inside-requires-clause-book : goal.follow-self-inside-requires-clause-book
 follow-self-inside-requires-clause-book c =
@@ -51,12 +54,11 @@ follow-self-inside-requires-clause-book c =
     let is =
     placed c.args.sid items c.place-place.result f (rw (← c.self.view_is) at c.place-place.ensures)
     c.at_mut.ensures.value in
-    let may = rw (← c.self.view_is, is.found) at c.requires.lawful in
-    let started = rw (← c.self.view_is, is.found) at c.requires.started in (
+    let may = rw (← c.self.view_is, is.found) at c.requires.lawful in (
       config,
       granted-book config c.args.sid c.args.start c.args.bytes _ items c.place-place.result
-          c.grant.new.self f c.self.invariant.book is c.grant.ensures.live may
-          (λ keeps kept. c.grant.ensures.sums config keeps started kept),
+          c.grant.new.self f c.self.invariant.book is (rw c.config.ensures at c.grant.ensures.live) may
+          (λ keeps kept. rw c.config.ensures at c.grant.ensures.sums),
     )
 
 pub follow-self-inside-requires-clause-queue : goal.follow-self-inside-requires-clause-queue
@@ -80,20 +82,19 @@ invariant_of-self c =
     let items = c.self.inside.flows in
     let is = stands c in
     let may = rw (← c.self.view_is, is.found) at c.requires.lawful in
-    let started = rw (← c.self.view_is, is.found) at c.requires.started in
     record {
       book = granted-book config c.args.sid c.args.start c.args.bytes _ items c.place-place.result c.grant.new.self
-          c.at_mut.result.now c.self.invariant.book is c.grant.ensures.live may
-          (λ keeps kept. c.grant.ensures.sums config keeps started kept);
+          c.at_mut.result.now c.self.invariant.book is (rw c.config.ensures at c.grant.ensures.live) may
+          (λ keeps kept. rw c.config.ensures at c.grant.ensures.sums);
       order = λ known. c.follow-self-inside.ensures known;
     }
 
 pub returns-clause-flows : goal.returns-clause-flows
 returns-clause-flows c =
     rw (← c.self.view_is)
-    (placed-changed c.args.sid (with_grant (record { start = c.args.start; bytes = c.args.bytes }))
+    (placed-changed c.args.sid (with_grant c.self.inside.channel (record { start = c.args.start; bytes = c.args.bytes }))
     c.self.inside.flows c.place-place.result c.grant.new.self c.at_mut.result.now
-    c.self.invariant.book.sound.ascending (stands c) c.grant.ensures.live)
+    c.self.invariant.book.sound.ascending (stands c) (rw c.config.ensures at c.grant.ensures.live))
 
 pub returns-clause-room : goal.returns-clause-room
 returns-clause-room c =

@@ -33,16 +33,20 @@ use Rattle.flow_book.specs.contracts.flow_list.FlowList.granted as f
 use Rattle.flow_book.proofs.flow_list.FlowList.granted.Statement as stated
 use Rattle.flow_book.proofs.flow_list.FlowList.granted.Code as code
 use Rattle.flow_book.specs.contracts.flow_list.FlowList as list
+use Rattle.minislots.specs.contracts.config.Checked as checked
 use Rattle.flow_book.specs.contracts.flow.Grant as grant
-use Rattle.flow_book.specs.Flows.{with_grant}
+use Rattle.flow_book.specs.Reserved.{with_grant}
 use Rattle.flow_book.specs.Book.{changed}
 
 abbrev stayed : Stays (f.ended).signature.params (f.ended).kept
 stayed = (
   stay_none_ref (0 ∷ []) tt (plain (λ _. list.the_row)) yes,
   (
-    stay_none_ref (1 ∷ []) tt (plain (λ _. u16)) yes,
-    (stay_none_ref (2 ∷ []) tt (plain (λ _. grant.the_row)) yes, tt),
+    stay_none_ref (1 ∷ []) tt (plain (λ _. checked.the_row)) yes,
+    (
+      stay_none_ref (2 ∷ []) tt (plain (λ _. u16)) yes,
+      (stay_none_ref (3 ∷ []) tt (plain (λ _. grant.the_row)) yes, tt),
+    ),
   ),
 )
 
@@ -50,46 +54,52 @@ module _ {M : Type 1} {𝓤 : Ura M} (𝓛 : Logic 𝓤) (mem : Memory → SProp
     (C : Calls 𝓤 𝓛.H) (Λ : Loops 𝓤 𝓛.H) where
   open 𝓛 use {H}
 
-  module _ (κs : Lfts 3) (qs : Shares 3) (a : Args f.signature κs) where
+  module _ (κs : Lfts 4) (qs : Shares 4) (a : Args f.signature κs) where
     abbrev before : Val
     before = vptr a.0.ref_ptr.0 a.0.ref_ptr.1
 
+    abbrev channel : Val
+    channel = vptr a.1.0.ref_ptr.0 a.1.0.ref_ptr.1
+
     abbrev sid : Val
-    sid = vptr a.1.0.ref_ptr.0 a.1.0.ref_ptr.1
+    sid = vptr a.1.1.0.ref_ptr.0 a.1.1.0.ref_ptr.1
 
     abbrev other : Val
-    other = vptr a.1.1.0.ref_ptr.0 a.1.1.0.ref_ptr.1
+    other = vptr a.1.1.1.0.ref_ptr.0 a.1.1.1.0.ref_ptr.1
 
     abbrev bound : (walk_of 𝓛 f.ended stayed (f.clauses 𝓛 mem run)).Ghost
-    bound = ((κs, qs, tt, a, (before ∷ [], (sid ∷ [], (other ∷ [], tt)))), tt)
+    bound = ((κs, qs, tt, a, (before ∷ [], (channel ∷ [], (sid ∷ [], (other ∷ [], tt))))), tt)
 
     abbrev made : list.the_row.Denot
-    made = record { items = changed a.1.0.now (with_grant a.1.1.0.now) a.0.now.items }
+    made = record { items = changed a.1.1.0.now (with_grant a.1.0.now a.1.1.1.0.now) a.0.now.items }
 
     abbrev passed : Fml
-    passed = owns (types_at f.signature.params κs) a (before ∷ [], (sid ∷ [], (other ∷ [], tt)))
+    passed = owns (types_at f.signature.params κs) a (before ∷ [], (channel ∷ [], (sid ∷ [], (other ∷ [], tt))))
 
-    walk : ent 𝓤 (on_entry 𝓛 f.signature κs qs a (before ∷ [], (sid ∷ [], (other ∷ [], tt))))
-        (WpFn 𝓤 H C Λ code.function (before ∷ sid ∷ other ∷ [])
+    walk : ent 𝓤 (on_entry 𝓛 f.signature κs qs a (before ∷ [], (channel ∷ [], (sid ∷ [], (other ∷ [], tt)))))
+        (WpFn 𝓤 H C Λ code.function (before ∷ channel ∷ sid ∷ other ∷ [])
         ((walk_of 𝓛 f.ended stayed (f.clauses 𝓛 mem run)).post bound))
     walk =
-        qed 𝓛 (raw (alive 𝓛 f.signature κs qs) ∷ ‵ passed ∷ []) ∵ enter ! C Λ code.function (before ∷ sid ∷ other ∷ []) _ $
-        alloc_all ! (λ l. pass_all ! refl ((tt, tt), ((tt, tt), ((tt, tt), tt))) $ sets ! (agg ! (no_more !)) refl (tt, tt) $
+        qed 𝓛 (raw (alive 𝓛 f.signature κs qs) ∷ ‵ passed ∷ []) ∵ enter ! C Λ code.function (before ∷ channel ∷ sid ∷ other ∷ []) _ $
+        alloc_all ! (λ l. pass_all ! refl ((tt, tt), ((tt, tt), ((tt, tt), ((tt, tt), tt)))) $ sets ! (agg ! (no_more !)) refl (tt, tt) $
         returns ! (look_at ! 0 refl) $ free_all ! refl $
-        suffices ! _ (ends_at 𝓛 f.ended stayed (f.clauses 𝓛 mem run) bound (vstruct vnil) made (tt, (tt, (tt, tt)))
-        (tt, (tt, (tt, tt)))) $
+        suffices ! _ (ends_at 𝓛 f.ended stayed (f.clauses 𝓛 mem run) bound (vstruct vnil) made (tt, (tt, (tt, (tt, tt))))
+        (tt, (tt, (tt, (tt, tt))))) $
         says ! refl $ pure_i ! (list.the_row.own_val made (vstruct vnil ∷ []))
         ((λ vss. (tt, tt)), tt) ((tt, (refl, tt)), tt) $
         move ! (1 ∷ 2 ∷ 0 ∷ []) $ done !)
 
   walks : Walks 𝓛 f.ended stayed (WpFn 𝓤 H C Λ code.function) (f.clauses 𝓛 mem run)
   walks =
-      walked 𝓛 f.ended stayed (f.clauses 𝓛 mem run) (WpFn 𝓤 H C Λ code.function) (λ κs. (shr_vals, (shr_vals, (shr_vals, tt))))
+      walked 𝓛 f.ended stayed (f.clauses 𝓛 mem run) (WpFn 𝓤 H C Λ code.function) (λ κs. (shr_vals, (shr_vals, (shr_vals, (shr_vals, tt)))))
       (λ κs. (
         shr_Tells (named 0) κs.0 list.the_row,
         (
-          shr_Tells (named 1) κs.1.0 u16,
-          (shr_Tells (named 2) κs.1.1.0 grant.the_row, tt),
+          shr_Tells (named 1) κs.1.0 checked.the_row,
+          (
+            shr_Tells (named 2) κs.1.1.0 u16,
+            (shr_Tells (named 3) κs.1.1.1.0 grant.the_row, tt),
+          ),
         ),
       ))
       (λ κs qs bounds a g are. via 𝓤 _ (fst∗ 𝓤 _ (emp 𝓤)) (walk κs qs a))
@@ -98,10 +108,13 @@ meets : {M : Type 1} {𝓤 : Ura M} (𝓛 : Logic 𝓤) (mem : Memory → SProp 
     → Meets 𝓛 f.signature (WpFn 𝓤 𝓛.H 𝓣.C 𝓣.Λ code.function) (f.spec 𝓛 mem run)
 meets {𝓤 = 𝓤} 𝓛 mem run 𝓣 =
     walk_Meets 𝓛 f.ended stayed (
-      Goes-none_ref 𝓛 3 (0 ∷ []) tt (plain (λ _. list.the_row)) yes,
+      Goes-none_ref 𝓛 4 (0 ∷ []) tt (plain (λ _. list.the_row)) yes,
       (
-        Goes-none_ref 𝓛 3 (1 ∷ []) tt (plain (λ _. u16)) yes,
-        (Goes-none_ref 𝓛 3 (2 ∷ []) tt (plain (λ _. grant.the_row)) yes, tt),
+        Goes-none_ref 𝓛 4 (1 ∷ []) tt (plain (λ _. checked.the_row)) yes,
+        (
+          Goes-none_ref 𝓛 4 (2 ∷ []) tt (plain (λ _. u16)) yes,
+          (Goes-none_ref 𝓛 4 (3 ∷ []) tt (plain (λ _. grant.the_row)) yes, tt),
+        ),
       ),
     ) (f.clauses 𝓛 mem run) (WpFn 𝓤 𝓛.H 𝓣.C 𝓣.Λ code.function)
     (WpFn-mono 𝓤 𝓛.H 𝓛.laws 𝓣 code.function) (walks 𝓛 mem run 𝓣.C 𝓣.Λ)

@@ -1,15 +1,15 @@
 -- The flow that is next has one grant more, and is put in its turn.
 use Rattle.std.proofs.Common.{◌≡◌, ◌⊎◌, ◌∙◌, Some, sym, ap, subst, map, slice_get}
 use Rattle.std.specs.Option.{IsSomeAnd, IfSome}
-use Rattle.sched_calls.specs.FlowSpec.{rank_of}
 use Rattle.flow_book.specs.Choice.{IsNext, IsAmount, NoneEligible}
 use Rattle.flow_book.specs.Queue.{IsIn, served_of}
 use Rattle.flow_book.specs.Parts.{HasStartedIn, IsServedFirst}
 use Rattle.flow_book.specs.declared.flow.Grant.{Grant}
-use Rattle.flow_book.specs.Flows.{flow_of, with_grant}
+use Rattle.flow_book.specs.Flows.{flow_of}
+use Rattle.flow_book.specs.Reserved.{with_grant}
 use Rattle.flow_book.specs.Overlay.{IsOverlay}
 use Rattle.flow_book.specs.Book.{changed}
-use Rattle.flow_book.specs.Entry.{live}
+use Rattle.flow_book.specs.Entry.{live, top_rank}
 use Rattle.flow_book.proofs.Overlays.{IsServed, started-queue, is-served, same-changed}
 use Rattle.flow_book.proofs.overlay.Overlay.serve.Goals as goal
 
@@ -67,7 +67,7 @@ served c =
 same-sid : (c : goal.After-self-1) → c.in_ok-served.served.sid ≡ (served c).flow.sid
 same-sid c =
     let is = served c in
-    (first c).granted.is (rank_of is.flow.spec) (Some c.args.start) is.flow.sid is.turn
+    (first c).granted.is (top_rank is.flow.spec) (Some c.args.start) is.flow.sid is.turn
 
 pub invariant_of-self-2 : goal.invariant_of-self-2
 invariant_of-self-2 c =
@@ -81,9 +81,9 @@ invariant_of-self-2 c =
     let queue = c.serve_first.new.queue.items in
     let after = c.serve_first.new.served.items in
     let ones = served_of is_long queue after in
-    let shows : map live is.grown ≡ changed is.flow.sid (with_grant grant) c.self.inside.flows.items =
-    is.shows ∙ ap (changed is.flow.sid (with_grant grant)) o.shows in
-    let all : IsOverlay config before (changed is.flow.sid (with_grant grant) c.self.inside.flows.items) is_long
+    let shows : map live is.grown ≡ changed is.flow.sid (with_grant config grant) c.self.inside.flows.items =
+    is.shows ∙ ap (changed is.flow.sid (with_grant config grant)) o.shows in
+    let all : IsOverlay config before (changed is.flow.sid (with_grant config grant) c.self.inside.flows.items) is_long
     queue after c.serve_first.new.tiers.items _ c.serve_first.new.first = record {
       items = is.grown;
       shows = shows;
@@ -92,12 +92,17 @@ invariant_of-self-2 c =
       tiered = is.tiered;
       room = c.serve_first.ensures.reserved;
       passed = c.serve_first.ensures.passed;
-      same = same-changed is.flow.sid grant before c.self.inside.flows.items o.same;
+      same = same-changed config is.flow.sid grant before c.self.inside.flows.items o.same;
       rest = λ place. subst (λ fs. IsIn place ones ⊎ (slice_get fs place ≡ slice_get before place)) shows
           (is.rest before (λ k. subst (λ fs. IsIn k old ⊎ (slice_get fs k ≡ slice_get before k)) (sym o.shows)
           (o.rest k)) place);
     } in
-    rw (c.granted-self-inside.ensures, same-sid c) all
+    let items : c.granted-self-inside.result.items
+    ≡ changed is.flow.sid (with_grant config grant) c.self.inside.flows.items =
+    c.granted-self-inside.ensures
+    ∙ ap (λ k. changed c.in_ok-served.served.sid (with_grant k grant) c.self.inside.flows.items) c.config-config.ensures
+    ∙ ap (λ sid. changed sid (with_grant config grant) c.self.inside.flows.items) (same-sid c) in
+    rw items all
 
 pub returns-clause-next : goal.returns-clause-next
 returns-clause-next c =

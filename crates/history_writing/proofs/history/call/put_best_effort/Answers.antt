@@ -8,11 +8,13 @@ use Rattle.history_writing.proofs.history.call.put_best_effort.Goals as goal
 
 pub returns-clause-ok : goal.returns-clause-ok
 returns-clause-ok c =
-    let same = best_effort-tokens c.args.priority c.args.rate c.args.burst c.args.peak in
+    let same = best_effort-tokens c.args.priority c.args.rate c.args.burst c.args.peak c.args.reserved
+    c.args.reserved_burst in
     where_ok c.end_object.result (λ ended. in_turn c.args.out.now.tokens
     (c.begin_object.new.self.tokens ∷ c.put_count.new.out.tokens ∷ c.put_name.new.out.tokens
     ∷ c.put_optional.new.out.tokens ∷ c.put_count-2.new.out.tokens ∷ c.put_count-3.new.out.tokens
-    ∷ c.end_object.new.self.tokens ∷ []) (_ ∷ _ ∷ _ ∷ _ ∷ _ ∷ _ ∷ _ ∷ []) (
+    ∷ c.put_optional-2.new.out.tokens ∷ c.put_optional-3.new.out.tokens
+    ∷ c.end_object.new.self.tokens ∷ []) (_ ∷ _ ∷ _ ∷ _ ∷ _ ∷ _ ∷ _ ∷ _ ∷ _ ∷ []) (
       c.in_ok-begin_object.ensures.ok,
       (
         c.in_ok-put_count.ensures.ok,
@@ -20,7 +22,13 @@ returns-clause-ok c =
           c.in_ok-put_name.ensures.ok,
           (
             c.in_ok-put_optional.ensures.ok,
-            (c.in_ok-put_count-2.ensures.ok, (c.in_ok-put_count-3.ensures.ok, (ended, tt))),
+            (
+              c.in_ok-put_count-2.ensures.ok,
+              (
+                c.in_ok-put_count-3.ensures.ok,
+                (c.in_ok-put_optional-2.ensures.ok, (c.in_ok-put_optional-3.ensures.ok, (ended, tt))),
+              ),
+            ),
           ),
         ),
       ),

@@ -73,7 +73,7 @@ overflow_sub-result c =
     omega (arith, is.within, is.asked, is.granted, sums.asked, sums.granted)
 
 pub returns-clause-told : goal.returns-clause-told
-returns-clause-told c = λ k life is now.
+returns-clause-told c = λ k life is now under.
     let t = c.args.self.now in
     let sums = c.sums-sums.ensures.sums k life is in
     let alone : AreLives k c.from_ref-one.result.now (life ∷ []) =
@@ -96,4 +96,5 @@ returns-clause-told c = λ k life is now.
           (c.percentile.ensures k (life ∷ []) alone);
       p99 = subst (λ (ds : List ℕ). TellsPercentile 99 ds c.percentile-2.result) (append-nil (delays_in k life))
           (c.percentile-2.ensures k (life ∷ []) alone);
+      under = under;
     }

@@ -1,11 +1,12 @@
 -- The numbers are those of the life at the place.
-use Rattle.std.proofs.Common.{◌<◌, length, get_or, sym, ap, subst, arith}
+use Rattle.std.proofs.Common.{◌<◌, ◌≡◌, ℕ, length, get_or, sym, ap, subst, arith}
 use Rattle.minislots.specs.declared.config.Config.{Config}
 use Rattle.sched_history.specs.Machine.{Past}
 use Rattle.sched_report.specs.declared.life.LifeTally.{LifeTally}
 use Rattle.sched_report.specs.Lives.{lives_of}
 use Rattle.sched_report.specs.Told.{IsLifeOf}
 use Rattle.sched_report.specs.ToldLives.{AreLifeNumbers}
+use Rattle.sched_report.specs.UnderIn.{under_in}
 use Rattle.sched_report.proofs.LivesEach.{no_life}
 use Rattle.sched_report.proofs.LiveNow.{live_now}
 use Rattle.sched_report.proofs.reporter.Reporter.life.Goals as goal
@@ -37,7 +38,9 @@ returns-clause-told c = λ life.
     (i.lives.each place c.index.result.now life (omega (arith, below, i.lives.long))) in
     let own : AreLifeNumbers k c.numbers.result (get_or (lives_of h) place life) =
     c.numbers.ensures.told k (get_or (lives_of h) place life) is
-    (live_now k h i.legal place life below c.self.inside.next i.next) in
+    (live_now k h i.legal place life below c.self.inside.next i.next)
+    (sym (subst (λ (n : ℕ). under_in k (get_or (lives_of h) place life) ≡ n) (sym c.index-2.ensures)
+    (sym (i.waited.each place c.index-2.result.now life (omega (arith, below, i.waited.long)))))) in
     subst (λ (p : Past). AreLifeNumbers p.config c.numbers.result (get_or (lives_of p.history) place life))
     c.self.view_is
     (subst (λ (k : Config). AreLifeNumbers k c.numbers.result (get_or (lives_of h) place life)) i.config own)

@@ -8,9 +8,10 @@ use Rattle.sched_report.proofs.reporter.Reporter.open.Goals as goal
 pub invariant_of-result : goal.invariant_of-result
 invariant_of-result c =
     let none : length c.new-2.result.items ≡ 0 = ap length c.new-2.ensures.items in
+    let uncounted : length c.new-3.result.items ≡ 0 = ap length c.new-3.ensures.items in
     subst (λ (p : Past).
     IsReport c.args.config p c.in_ok-new.field-0.value c.none.result _ c.start.result c.new-2.result.items
-    c.in_ok-vec.field-0.items)
+    c.in_ok-vec.field-0.items c.new-3.result.items)
     (sym c.in_ok-open.ensures)
     (record {
       config = refl;
@@ -24,5 +25,10 @@ invariant_of-result c =
       live = record {
         long = omega (arith, c.in_ok-vec.field-0.ok.0, c.in_ok-vec.ensures.len);
         each = λ k t below alive. absurd (omega (arith, below, none));
+      };
+      waited = record {
+        long = uncounted;
+        each = λ k n life below. absurd (omega (arith, below, uncounted));
+        few = λ k n below. absurd (omega (arith, below, uncounted));
       };
     })

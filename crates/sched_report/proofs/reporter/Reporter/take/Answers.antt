@@ -6,6 +6,7 @@ use Rattle.std.proofs.lemmas.Bool.{cases_lt}
 use Rattle.minislots.specs.declared.config.Config.{Config}
 use Rattle.map_build.proofs.EachAfterLaws.{EachAfter-push}
 use Rattle.sched_calls.specs.declared.reply.TheConstants.{MAX_WHOLE_HISTORY}
+use Rattle.sched_history.specs.Facts.{under_by}
 use Rattle.sched_history.specs.History.{IsStep}
 use Rattle.sched_history.specs.Machine.{Past}
 use Rattle.sched_history.specs.Reserves.{met_after}
@@ -14,7 +15,9 @@ use Rattle.sched_report.specs.Counted.{IsCounted}
 use Rattle.sched_report.specs.Reported.{IsReport}
 use Rattle.sched_report.specs.Live.{AreLive}
 use Rattle.sched_report.specs.Lives.{lives_of}
-use Rattle.sched_report.specs.ToldLives.{MayFollow}
+use Rattle.sched_report.specs.declared.life.LifeTally.{LifeTally}
+use Rattle.sched_report.specs.ToldLives.{AreLives, MayFollow}
+use Rattle.sched_report.specs.Under.{AreUnder, MayCountUnder}
 use Rattle.sched_report.proofs.reporter.Reporter.take.Goals as goal
 
 pub follow-self-inside-requires-clause-may : goal.follow-self-inside-requires-clause-may
@@ -34,8 +37,32 @@ follow-self-inside-requires-clause-may c =
         ];
         next = i.next;
         lives = c.reserve_for.ensures.same k (lives_of h) i.lives;
-        meets = c.as_slice-2.ensures.value ∙ c.in-Ok-met.ensures.met c.in_ok-judge.ensures.step
+        meets = c.as_slice-3.ensures.value ∙ c.in-Ok-met.ensures.met c.in_ok-judge.ensures.step
             ∙ ap (λ (k : Config). met_after k h e.reply) (sym i.config);
+      },
+    )
+
+pub count_under-requires-clause-may : goal.count_under-requires-clause-may
+count_under-requires-clause-may c =
+    let i = c.self.invariant in
+    let k = c.self.inside.config in
+    let h = c.self.inside.auditor.history in
+    let e = c.args.entry.now in (
+      k,
+      h,
+      record {
+        lawful = i.lawful;
+        legal = i.legal;
+        step = subst (λ (k : Config). IsStep k h e.call e.reply) (sym i.config) c.in_ok-judge.ensures.step;
+        short = elim (cases_lt (length h) MAX_WHOLE_HISTORY) [
+          | inl below ↦ below
+          | inr full ↦ absurd (cc (c.in_ok-judge.ensures.full.1 full))
+        ];
+        lives = subst (λ (ts : List LifeTally). AreLives k ts (lives_of h)) (sym c.deref-3.ensures.value)
+            (c.reserve_for.ensures.same k (lives_of h) i.lives);
+        counts = subst (AreUnder k h) (sym c.reserve_count.ensures.same) i.waited;
+        waits = c.as_slice-2.ensures.value ∙ c.in-Ok-under.ensures.under c.in_ok-judge.ensures.step
+            ∙ ap (λ (k : Config). under_by k h e.reply) (sym i.config);
       },
     )
 
@@ -65,18 +92,30 @@ invariant_of-self-2 c =
       told = at _ c.deref-2.ensures;
       meets = c.as_slice.ensures.value ∙ meets;
     } in
-    let follows : MayFollow k h c.reserve_for.new.lives.items c.self.inside.next c.as_slice-2.result.now e = record {
+    let follows : MayFollow k h c.reserve_for.new.lives.items c.self.inside.next c.as_slice-3.result.now e = record {
       lawful = i.lawful;
       legal = i.legal;
       step = step;
       short = short;
       next = i.next;
       lives = c.reserve_for.ensures.same k (lives_of h) i.lives;
-      meets = c.as_slice-2.ensures.value ∙ meets;
+      meets = c.as_slice-3.ensures.value ∙ meets;
+    } in
+    let waits : MayCountUnder k h c.deref-3.result.now c.reserve_count.new.under.items c.as_slice-2.result.now e =
+    record {
+      lawful = i.lawful;
+      legal = i.legal;
+      step = step;
+      short = short;
+      lives = subst (λ (ts : List LifeTally). AreLives k ts (lives_of h)) (sym c.deref-3.ensures.value)
+          (c.reserve_for.ensures.same k (lives_of h) i.lives);
+      counts = subst (AreUnder k h) (sym c.reserve_count.ensures.same) i.waited;
+      waits = c.as_slice-2.ensures.value ∙ c.in-Ok-under.ensures.under c.in_ok-judge.ensures.step
+          ∙ ap (λ (k : Config). under_by k h e.reply) (sym i.config);
     } in
     subst (λ (p : Past). IsReport k p c.note.new.flows c.add.new.self c.count_refusal.new.counts
     c.follow-self-inside.result c.follow-self-inside.new.lives.items
-    (with_items c.self.inside.places c.follow-self-inside.new.places).items)
+    (with_items c.self.inside.places c.follow-self-inside.new.places).items c.count_under.new.under.items)
     (sym c.in_ok-judge.ensures.taken)
     (record {
       config = i.config;
@@ -91,6 +130,7 @@ invariant_of-self-2 c =
           (sym (with_items_is c.self.inside.places c.follow-self-inside.new.places
           (c.follow-self-inside.auto.places ∙ c.deref_mut-2.ensures.len)))
           c.follow-self-inside.ensures.live;
+      waited = c.count_under.ensures k h waits;
     })
 
 pub invariant_of-self : goal.invariant_of-self
@@ -107,6 +147,41 @@ invariant_of-self c =
       lives = c.reserve_for.ensures.same c.self.inside.config (lives_of c.self.inside.auditor.history) i.lives;
       live = subst (λ (places : List ℕ). AreLive places c.reserve_for.new.lives.items) c.deref.ensures.value
           c.reserve_for.ensures.live;
+      waited = i.waited;
+    }
+
+pub invariant_of-self-in-Err-reserve_count : goal.invariant_of-self-in-Err-reserve_count
+invariant_of-self-in-Err-reserve_count c =
+    let i = c.self.invariant in
+    record {
+      config = i.config;
+      legal = i.legal;
+      told = i.told;
+      totals = i.totals;
+      refused = i.refused;
+      lawful = i.lawful;
+      next = i.next;
+      lives = c.reserve_for.ensures.same c.self.inside.config (lives_of c.self.inside.auditor.history) i.lives;
+      live = subst (λ (places : List ℕ). AreLive places c.reserve_for.new.lives.items) c.deref.ensures.value
+          c.reserve_for.ensures.live;
+      waited = rw (c.reserve_count.ensures.same) i.waited;
+    }
+
+pub invariant_of-self-in_default-under : goal.invariant_of-self-in_default-under
+invariant_of-self-in_default-under c =
+    let i = c.self.invariant in
+    record {
+      config = i.config;
+      legal = i.legal;
+      told = i.told;
+      totals = i.totals;
+      refused = i.refused;
+      lawful = i.lawful;
+      next = i.next;
+      lives = c.reserve_for.ensures.same c.self.inside.config (lives_of c.self.inside.auditor.history) i.lives;
+      live = subst (λ (places : List ℕ). AreLive places c.reserve_for.new.lives.items) c.deref.ensures.value
+          c.reserve_for.ensures.live;
+      waited = rw (c.reserve_count.ensures.same) i.waited;
     }
 
 pub invariant_of-self-in_default : goal.invariant_of-self-in_default
@@ -123,6 +198,7 @@ invariant_of-self-in_default c =
       lives = c.reserve_for.ensures.same c.self.inside.config (lives_of c.self.inside.auditor.history) i.lives;
       live = subst (λ (places : List ℕ). AreLive places c.reserve_for.new.lives.items) c.deref.ensures.value
           c.reserve_for.ensures.live;
+      waited = rw (c.reserve_count.ensures.same) i.waited;
     }
 
 pub invariant_of-self-in_err-judge : goal.invariant_of-self-in_err-judge
@@ -130,7 +206,7 @@ invariant_of-self-in_err-judge c =
     let i = c.self.invariant in
     let s = c.self.inside in
     subst (λ (p : Past). IsReport s.config p s.flows.value s.totals s.refused s.next c.reserve_for.new.lives.items
-    s.places.items)
+    s.places.items c.reserve_count.new.under.items)
     (sym c.in_err-judge.ensures.err)
     (record {
       config = i.config;
@@ -143,4 +219,5 @@ invariant_of-self-in_err-judge c =
       lives = c.reserve_for.ensures.same s.config (lives_of s.auditor.history) i.lives;
       live = subst (λ (places : List ℕ). AreLive places c.reserve_for.new.lives.items) c.deref.ensures.value
           c.reserve_for.ensures.live;
+      waited = rw (c.reserve_count.ensures.same) i.waited;
     })
