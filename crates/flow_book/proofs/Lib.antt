@@ -1,6 +1,9 @@
 pub mod Admission
 pub mod Amounts
-pub mod Boxes
+pub mod Slots
+pub mod SlotOrders
+pub mod SlotBoxes
+pub mod SlotSids
 pub mod Buckets
 pub mod Changes
 pub mod FirstGrant

@@ -183,14 +183,14 @@ fn first_waiting(queue: &[Waiting], first: usize) -> usize
 #[inline(always)]
 fn serve_one(
     waiting: &mut Waiting,
-    tiers: &mut Vec<Tier>,
+    tiers: &mut [Tier],
     quantum: u32,
     start: u64,
     most: u64,
 ) -> Served
-    requires begun { HasBegunBy start (limits_in tiers.old.items waiting.old) }
+    requires begun { HasBegunBy start (limits_in tiers.old waiting.old) }
     requires most { most < 2 ^ 32 }
-    ensures { IsGranted quantum tiers.old.items tiers.new.items waiting.old waiting.new start most result.sid result.bytes }
+    ensures { IsGranted quantum tiers.old tiers.new waiting.old waiting.new start most result.sid result.bytes }
 {
     let bytes = waiting.serve(tiers, quantum, start, most);
     Served {
@@ -211,21 +211,22 @@ fn put_short(queue: &mut Vec<Waiting>, index: usize, waiting: Waiting)
     put_on(queue, index, waiting);
 }
 
-// Serves the first that may be served where few wait.
-fn serve_short(
+// Serves the first that may be served where few wait, with these tiers.
+#[inline(always)]
+fn serve_by(
     queue: &mut Vec<Waiting>,
-    tiers: &mut Vec<Tier>,
+    tiers: &mut [Tier],
     config: &Checked,
     start: u64,
     room: Room,
 ) -> Option<Served>
     requires room { IsRoom config.now room }
     requires started { (items : List Flow) × IsShortQueue items queue.old.items
-        × HasStartedIn config.now items tiers.old.items queue.old.items [] start }
+        × HasStartedIn config.now items tiers.old queue.old.items [] start }
     ensures next { (items : List Flow) → IsShortQueue items queue.old.items
-        → HasStartedIn config.now items tiers.old.items queue.old.items [] start
+        → HasStartedIn config.now items tiers.old queue.old.items [] start
         → MatchOption result (NoneEligible config.now (map live items) start room.slots)
-        (λ s. IsServedFirst config.now false items tiers.old.items tiers.new.items queue.old.items [] queue.new.items []
+        (λ s. IsServedFirst config.now false items tiers.old tiers.new queue.old.items [] queue.new.items []
         start room.slots room.bytes s.sid s.bytes) }
     ensures none { result ≡ None → (queue.new ≡ queue.old) × (tiers.new ≡ tiers.old) }
     ensures lawful { IsLawful config.now }
@@ -238,13 +239,38 @@ fn serve_short(
     Some(granted)
 }
 
+// Serves the first that may be served where few wait. Most often none has a tier: then none is asked for one.
+fn serve_short(
+    queue: &mut Vec<Waiting>,
+    tiers: &mut [Tier],
+    config: &Checked,
+    start: u64,
+    room: Room,
+) -> Option<Served>
+    requires room { IsRoom config.now room }
+    requires started { (items : List Flow) × IsShortQueue items queue.old.items
+        × HasStartedIn config.now items tiers.old queue.old.items [] start }
+    ensures next { (items : List Flow) → IsShortQueue items queue.old.items
+        → HasStartedIn config.now items tiers.old queue.old.items [] start
+        → MatchOption result (NoneEligible config.now (map live items) start room.slots)
+        (λ s. IsServedFirst config.now false items tiers.old tiers.new queue.old.items [] queue.new.items []
+        start room.slots room.bytes s.sid s.bytes) }
+    ensures none { result ≡ None → (queue.new ≡ queue.old) × (tiers.new ≡ tiers.old) }
+    ensures lawful { IsLawful config.now }
+{
+    if tiers.is_empty() {
+        return serve_by(queue, &mut [], config, start, room);
+    }
+    serve_by(queue, tiers, config, start, room)
+}
+
 // Serves the first that may be served where many wait. None of the queue before the first place wants anything.
 #[inline(never)]
 fn serve_long(
     queue: &mut Vec<Waiting>,
     first: &mut usize,
     served: &mut Vec<Waiting>,
-    tiers: &mut Vec<Tier>,
+    tiers: &mut [Tier],
     config: &Checked,
     start: u64,
     room: Room,
@@ -253,10 +279,10 @@ fn serve_long(
     requires passed { NoneWaitsBefore first.old queue.old.items }
     requires reserved { HasRoom true queue.old.items served.old.items (vec_capacity served.old) }
     requires started { (items : List Flow)
-        × HasStartedIn config.now items tiers.old.items queue.old.items served.old.items start }
-    ensures next { (items : List Flow) → HasStartedIn config.now items tiers.old.items queue.old.items served.old.items start
+        × HasStartedIn config.now items tiers.old queue.old.items served.old.items start }
+    ensures next { (items : List Flow) → HasStartedIn config.now items tiers.old queue.old.items served.old.items start
         → MatchOption result (NoneEligible config.now (map live items) start room.slots)
-        (λ s. IsServedFirst config.now true items tiers.old.items tiers.new.items queue.old.items served.old.items
+        (λ s. IsServedFirst config.now true items tiers.old tiers.new queue.old.items served.old.items
         queue.new.items served.new.items start room.slots room.bytes s.sid s.bytes) }
     ensures none { result ≡ None
         → (queue.new ≡ queue.old) × (served.new ≡ served.old) × (tiers.new ≡ tiers.old) }
@@ -278,7 +304,7 @@ pub(crate) fn serve_first(
     queue: &mut Vec<Waiting>,
     first: &mut usize,
     served: &mut Vec<Waiting>,
-    tiers: &mut Vec<Tier>,
+    tiers: &mut [Tier],
     is_long: bool,
     config: &Checked,
     start: u64,
@@ -288,11 +314,11 @@ pub(crate) fn serve_first(
     requires passed { is_long ≡ true → NoneWaitsBefore first.old queue.old.items }
     requires reserved { HasRoom is_long queue.old.items served.old.items (vec_capacity served.old) }
     requires started { (items : List Flow) × IsOrderIn is_long items queue.old.items served.old.items
-        × HasStartedIn config.now items tiers.old.items queue.old.items served.old.items start }
+        × HasStartedIn config.now items tiers.old queue.old.items served.old.items start }
     ensures next { (items : List Flow) → IsOrderIn is_long items queue.old.items served.old.items
-        → HasStartedIn config.now items tiers.old.items queue.old.items served.old.items start
+        → HasStartedIn config.now items tiers.old queue.old.items served.old.items start
         → MatchOption result (NoneEligible config.now (map live items) start room.slots)
-        (λ s. IsServedFirst config.now is_long items tiers.old.items tiers.new.items queue.old.items served.old.items
+        (λ s. IsServedFirst config.now is_long items tiers.old tiers.new queue.old.items served.old.items
         queue.new.items served.new.items start room.slots room.bytes s.sid s.bytes) }
     ensures none { result ≡ None
         → (queue.new ≡ queue.old) × (served.new ≡ served.old) × (tiers.new ≡ tiers.old) }

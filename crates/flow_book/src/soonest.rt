@@ -18,6 +18,7 @@ use minislots::Checked;
 
 // Where in a list of those that wait, of which none before the first place wants anything, the first stands that may be
 // served at this minislot.
+#[inline(always)]
 pub(crate) fn first_able(
     queue: &[Waiting],
     first: usize,

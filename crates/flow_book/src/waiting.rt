@@ -112,15 +112,15 @@ impl Waiting {
     // Takes the most bytes, up to the limit, that keep its ceilings in a grant that starts at this minislot, where it wants
     // so many at least, and answers how many they are.
     #[inline(always)]
-    fn take_most(&mut self, tiers: &mut Vec<Tier>, slot: u64, wanted: u32, limit: u32) -> u32
-        requires { HasBegunBy slot (limits_in tiers.old.items self.old) }
+    fn take_most(&mut self, tiers: &mut [Tier], slot: u64, wanted: u32, limit: u32) -> u32
+        requires { HasBegunBy slot (limits_in tiers.old self.old) }
         ensures same { self.new ≡ record self.old { sustained = self.new.sustained } }
-        ensures most { result ≡ most_with (limits_in tiers.old.items self.old) slot wanted limit }
-        ensures taken { HaveOneMore (limits_in tiers.old.items self.old) (limits_in tiers.new.items self.new) slot wanted
+        ensures most { result ≡ most_with (limits_in tiers.old self.old) slot wanted limit }
+        ensures taken { HaveOneMore (limits_in tiers.old self.old) (limits_in tiers.new self.new) slot wanted
             result }
-        ensures settled { StaySettled (limits_in tiers.old.items self.old) (limits_in tiers.new.items self.new) slot wanted
+        ensures settled { StaySettled (limits_in tiers.old self.old) (limits_in tiers.new self.new) slot wanted
             result }
-        ensures spent { IsSpent tiers.old.items tiers.new.items self.old self.new }
+        ensures spent { IsSpent tiers.old tiers.new self.old self.new }
     {
         let tier = self.tier as usize;
         if tier >= tiers.len() {
@@ -132,24 +132,18 @@ impl Waiting {
     // Grants the flow, from this minislot on, the most bytes that it may have of so many at most, and answers how many
     // they are.
     #[inline(always)]
-    pub(crate) fn serve(
-        &mut self,
-        tiers: &mut Vec<Tier>,
-        quantum: u32,
-        start: u64,
-        most: u64,
-    ) -> u32
-        requires begun { HasBegunBy start (limits_in tiers.old.items self.old) }
+    pub(crate) fn serve(&mut self, tiers: &mut [Tier], quantum: u32, start: u64, most: u64) -> u32
+        requires begun { HasBegunBy start (limits_in tiers.old self.old) }
         requires most { most < 2 ^ 32 }
         ensures bytes { result
-            ≡ most_with (limits_in tiers.old.items self.old) start (min self.old.wants quantum) (min self.old.wants most) }
+            ≡ most_with (limits_in tiers.old self.old) start (min self.old.wants quantum) (min self.old.wants most) }
         ensures wants { self.new.wants + result ≡ self.old.wants }
         ensures place { self.new.place ≡ self.old.place }
-        ensures limits { HaveOneMore (limits_in tiers.old.items self.old) (limits_in tiers.new.items self.new) start
+        ensures limits { HaveOneMore (limits_in tiers.old self.old) (limits_in tiers.new self.new) start
             (min self.old.wants quantum) result }
-        ensures settled { StaySettled (limits_in tiers.old.items self.old) (limits_in tiers.new.items self.new) start
+        ensures settled { StaySettled (limits_in tiers.old self.old) (limits_in tiers.new self.new) start
             (min self.old.wants quantum) result }
-        ensures spent { IsSpent tiers.old.items tiers.new.items self.old self.new }
+        ensures spent { IsSpent tiers.old tiers.new self.old self.new }
         ensures turn { (rank : ℕ) (last : Option ℕ) (sid : ℕ)
             → IsTurn rank last sid self.old.turn → IsTurn rank (Some start) sid self.new.turn }
         ensures later { (rank : ℕ) (last : Option ℕ) (sid : ℕ) → IsTurn rank last sid self.old.turn

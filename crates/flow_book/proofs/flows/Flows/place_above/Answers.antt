@@ -1,24 +1,19 @@
--- Those of no higher SID stand before all of higher ones.
-use Rattle.std.proofs.Common.{◌∙◌, sym, ap, nat_lt, nat_le, map, rules}
+-- The slot of the flow behind is found.
+use Rattle.std.proofs.Common.{◌∙◌, ap, map, nat_lt}
 use Rattle.std.specs.List.{position_or_len}
-use Rattle.std.proofs.lemmas.List.Sorted.{IsPartitionPoint-from_clause, IsPartitionedBy-leb}
 use Rattle.flow_book.specs.declared.flow.Flow.{Flow}
-use Rattle.flow_book.specs.Entry.{live}
-use Rattle.flow_book.proofs.Searches.{ascends-of, not-falling, parted}
-use Rattle.flow_book.proofs.Places.{position_or_len-map}
+use Rattle.flow_book.proofs.SlotBoxes.{IsOrder-values}
+use Rattle.flow_book.proofs.SlotSids.{ascends-slots, position_or_len-picked}
 use Rattle.flow_book.proofs.flows.Flows.place_above.Goals as goal
 
 pub returns-clause-place : goal.returns-clause-place
 returns-clause-place c =
-    let boxes = c.self.inside.boxes.items in
-    let sid = c.args.sid in
-    let at = c.partition_point.result in
-    let facts = rw c.deref.ensures.value at c.partition_point.ensures in
-    let up = ascends-of live (λ g. g.sid) (map (λ b. b.value) boxes) (rw (← c.self.view_is) at c.requires) in
-    let keys = not-falling (λ b. b.value.sid) boxes (ascends-of (λ b. b.value) (λ (f : Flow). f.sid) boxes up) in
-    let halves =
-    IsPartitionPoint-from_clause (λ b. nat_le b.value.sid sid) boxes at facts.partitioned
-    (IsPartitionedBy-leb (λ b. b.value.sid) boxes sid keys) (λ a r f k. search rules) in
-    parted (λ b. b.value.sid) boxes sid at facts.bound halves
-    ∙ sym (position_or_len-map (λ b. b.value) (λ (f : Flow). nat_lt sid f.sid) boxes)
-    ∙ ap (position_or_len (λ (f : Flow). nat_lt sid f.sid)) c.self.view_is
+    let boxes = c.self.inside.slots.items in
+    let flows = map (λ b. b.value) boxes in
+    let slots = c.self.inside.order.items in
+    let order = IsOrder-values (λ b. b.value) boxes slots c.self.invariant in
+    let facts = rw (c.deref.ensures.value, c.deref-2.ensures.value) at c.find_above.ensures in
+    let up = ascends-slots flows slots order.below (rw (← c.self.view_is) at c.requires) in
+    facts.value up
+    ∙ position_or_len-picked flows slots order.below c.args.sid
+    ∙ ap (position_or_len (λ (f : Flow). nat_lt c.args.sid f.sid)) c.self.view_is

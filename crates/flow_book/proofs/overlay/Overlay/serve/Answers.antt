@@ -1,5 +1,6 @@
 -- The flow that is next has one grant more, and is put in its turn.
-use Rattle.std.proofs.Common.{◌≡◌, ◌⊎◌, ◌∙◌, Some, sym, ap, subst, map, slice_get}
+use Rattle.std.proofs.Common.{◌≡◌, ◌⊎◌, ◌∙◌, Some, sym, ap, subst, map, slice_get, length, drop, arith}
+use Rattle.std.proofs.lemmas.List.{take_at}
 use Rattle.std.specs.Option.{IsSomeAnd, IfSome}
 use Rattle.flow_book.specs.Choice.{IsNext, IsAmount, NoneEligible}
 use Rattle.flow_book.specs.Queue.{IsIn, served_of}
@@ -20,7 +21,7 @@ serve_first-requires-clause-started c =
     started-queue c.self.inside.channel c.self.inside.before.items c.self.inside.flows.items c.self.inside.is_long
     c.self.inside.queue.items c.self.inside.served.items c.self.inside.tiers.items _ c.self.inside.first c.args.start o
     (rw (← c.self.view_is) at c.requires.started) in
-    (o.items, o.order, rw c.config-config.ensures has)
+    (o.items, o.order, rw (c.deref_mut.ensures.value, c.config-config.ensures) has)
 
 pub returns-in_err-served-clause-next : goal.returns-in_err-served-clause-next
 returns-in_err-served-clause-next c =
@@ -30,12 +31,12 @@ returns-in_err-served-clause-next c =
     started-queue config c.self.inside.before.items c.self.inside.flows.items c.self.inside.is_long
     c.self.inside.queue.items c.self.inside.served.items c.self.inside.tiers.items _ c.self.inside.first c.args.start o
     (rw (← c.self.view_is) at c.requires.started) in
-    let none = (rw c.config-config.ensures at c.in_err-served.ensures.next) o.items o.order has in
+    let none = (rw (c.deref_mut.ensures.value, c.config-config.ensures) at c.in_err-served.ensures.next) o.items o.order has in
     rw (← c.self.view_is, c.from_residual.ensures)
     (subst (λ fs. NoneEligible config fs c.args.start c.args.room) o.shows none)
 
 -- all its grants have started
-has-started : (c : goal.After-self-1) → HasStartedIn c.self.inside.channel c.self.invariant.items
+has-started : (c : goal.After-self-2-1) → HasStartedIn c.self.inside.channel c.self.invariant.items
     c.self.inside.tiers.items c.self.inside.queue.items c.self.inside.served.items c.args.start
 has-started c =
     started-queue c.self.inside.channel c.self.inside.before.items c.self.inside.flows.items c.self.inside.is_long
@@ -43,20 +44,20 @@ has-started c =
     (rw (← c.self.view_is) at c.requires.started)
 
 -- the first is served
-first : (c : goal.After-self-1) → IsServedFirst c.self.inside.channel c.self.inside.is_long c.self.invariant.items
-    c.self.inside.tiers.items c.serve_first.new.tiers.items c.self.inside.queue.items c.self.inside.served.items c.serve_first.new.queue.items c.serve_first.new.served.items
+first : (c : goal.After-self-2-1) → IsServedFirst c.self.inside.channel c.self.inside.is_long c.self.invariant.items
+    c.self.inside.tiers.items c.serve_first.new.tiers c.self.inside.queue.items c.self.inside.served.items c.serve_first.new.queue.items c.serve_first.new.served.items
     c.args.start c.args.room c.most_in-bytes.result c.in_ok-served.served.sid c.in_ok-served.served.bytes
 first c =
-    (rw c.config-config.ensures at c.in_ok-served.ensures.next) c.self.invariant.items c.self.invariant.order
+    (rw (c.deref_mut.ensures.value, c.config-config.ensures) at c.in_ok-served.ensures.next) c.self.invariant.items c.self.invariant.order
     (has-started c)
 
 -- the flow is served
-served : (c : goal.After-self-1) → IsServed c.self.inside.channel c.self.invariant.items c.self.inside.is_long
-    c.serve_first.new.tiers.items c.self.inside.queue.items c.self.inside.served.items c.serve_first.new.queue.items c.serve_first.new.served.items
+served : (c : goal.After-self-2-1) → IsServed c.self.inside.channel c.self.invariant.items c.self.inside.is_long
+    c.serve_first.new.tiers c.self.inside.queue.items c.self.inside.served.items c.serve_first.new.queue.items c.serve_first.new.served.items
     c.args.start c.args.room c.in_ok-served.served.bytes (first c).waiting (first c).new
 served c =
     let f = first c in
-    is-served c.self.inside.channel c.self.invariant.items c.self.inside.tiers.items c.serve_first.new.tiers.items
+    is-served c.self.inside.channel c.self.invariant.items c.self.inside.tiers.items c.serve_first.new.tiers
     c.self.inside.queue.items c.self.inside.served.items c.serve_first.new.queue.items c.serve_first.new.served.items
     c.args.start c.args.room c.in_ok-served.served.sid c.in_ok-served.served.bytes c.most_in-bytes.result f.at f.waiting
     f.new (rw c.config-config.ensures at c.in_ok-served.ensures.lawful) (has-started c) f.here f.next
@@ -64,10 +65,15 @@ served c =
     c.self.invariant.tiered.ones f.put
 
 -- its SID is told by its turn
-same-sid : (c : goal.After-self-1) → c.in_ok-served.served.sid ≡ (served c).flow.sid
+same-sid : (c : goal.After-self-2-1) → c.in_ok-served.served.sid ≡ (served c).flow.sid
 same-sid c =
     let is = served c in
     (first c).granted.is (top_rank is.flow.spec) (Some c.args.start) is.flow.sid is.turn
+
+-- as many tiers stand behind it
+as-long : (c : goal.After-self-2-1) → length c.serve_first.new.tiers ≡ c.self.inside.tiers.len
+as-long c =
+    omega (arith, c.serve_first.auto.tiers, ap length c.deref_mut.ensures.value, c.self.inside.tiers.ok.0)
 
 pub invariant_of-self-2 : goal.invariant_of-self-2
 invariant_of-self-2 c =
@@ -84,7 +90,7 @@ invariant_of-self-2 c =
     let shows : map live is.grown ≡ changed is.flow.sid (with_grant config grant) c.self.inside.flows.items =
     is.shows ∙ ap (changed is.flow.sid (with_grant config grant)) o.shows in
     let all : IsOverlay config before (changed is.flow.sid (with_grant config grant) c.self.inside.flows.items) is_long
-    queue after c.serve_first.new.tiers.items _ c.serve_first.new.first = record {
+    queue after c.serve_first.new.tiers _ c.serve_first.new.first = record {
       items = is.grown;
       shows = shows;
       book = is.book;
@@ -102,7 +108,9 @@ invariant_of-self-2 c =
     c.granted-self-inside.ensures
     ∙ ap (λ k. changed c.in_ok-served.served.sid (with_grant k grant) c.self.inside.flows.items) c.config-config.ensures
     ∙ ap (λ sid. changed sid (with_grant config grant) c.self.inside.flows.items) (same-sid c) in
-    rw items all
+    let tiers = c.serve_first.new.tiers in
+    let kept = take_at tiers (drop (length tiers) c.self.inside.tiers.items) c.self.inside.tiers.len (as-long c) in
+    rw (items, kept) all
 
 pub returns-clause-next : goal.returns-clause-next
 returns-clause-next c =

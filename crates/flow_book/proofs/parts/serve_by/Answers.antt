@@ -6,7 +6,7 @@ use Rattle.flow_book.specs.declared.waiting.Waiting.{Waiting}
 use Rattle.flow_book.specs.declared.parts.Standing.TheVariants.{Queued}
 use Rattle.flow_book.proofs.InParts.{queued-part, alone-next, next-alone}
 use Rattle.flow_book.proofs.Overlays.{next-begun, next-later, next-waits}
-use Rattle.flow_book.proofs.parts.serve_short.Goals as goal
+use Rattle.flow_book.proofs.parts.serve_by.Goals as goal
 
 read-here : (queue : List Waiting) (i : ℕ) (w : Waiting) → i < length queue → w ≡ get_or queue i w
     → slice_get queue i ≡ Some w
@@ -16,11 +16,11 @@ pub returns-in_err-first-clause-next : goal.returns-in_err-first-clause-next
 returns-in_err-first-clause-next c = λ items short has.
     let config = c.args.config.now in
     let queue = c.args.queue.now.items in
-    let tiers = c.args.tiers.now.items in
+    let tiers = c.args.tiers.now in
     let part = queued-part config items tiers queue [] c.args.start c.args.room.slots has in
     rw c.from_residual.ensures
     (alone-next config items tiers queue [] c.args.start c.args.room.slots has None refl
-    ((rw (c.deref.ensures.value, c.deref-2.ensures.value) at c.in_err-first.ensures.next) items part))
+    ((rw (c.deref.ensures.value) at c.in_err-first.ensures.next) items part))
 
 pub serve_one-granted-requires-clause-begun : goal.serve_one-granted-requires-clause-begun
 serve_one-granted-requires-clause-begun c =
@@ -30,13 +30,13 @@ serve_one-granted-requires-clause-begun c =
     let queue = c.args.queue.now.items in
     let slots = c.args.room.slots in
     let index = c.soonest_of-index.result in
-    let tiers = c.args.tiers.now.items in
+    let tiers = c.args.tiers.now in
     let part = queued-part config items tiers queue [] c.args.start slots has in
     let is =
     next-alone config items tiers queue [] c.args.start slots has index refl
-    ((rw (c.deref-3.ensures.value, c.deref-4.ensures.value) at c.soonest_of-index.ensures.next) items part) in
+    ((rw (c.deref-2.ensures.value) at c.soonest_of-index.ensures.next) items part) in
     let here =
-    read-here queue index c.index.result.now (rw c.deref-3.ensures.value at c.soonest_of-index.ensures.within) c.index.ensures in
+    read-here queue index c.index.result.now (rw c.deref-2.ensures.value at c.soonest_of-index.ensures.within) c.index.ensures in
     next-begun config items tiers queue [] c.args.start slots (Queued index) c.index.result.now has is here
 
 pub serve_one-granted-requires-clause-most : goal.serve_one-granted-requires-clause-most
@@ -53,13 +53,13 @@ put_short-requires-clause-here c =
     let slots = c.args.room.slots in
     let index = c.soonest_of-index.result in
     let w = c.index.result.now in
-    let tiers = c.args.tiers.now.items in
+    let tiers = c.args.tiers.now in
     let part = queued-part config items tiers queue [] c.args.start slots has in
     let is =
     next-alone config items tiers queue [] c.args.start slots has index refl
-    ((rw (c.deref-3.ensures.value, c.deref-4.ensures.value) at c.soonest_of-index.ensures.next) items part) in
+    ((rw (c.deref-2.ensures.value) at c.soonest_of-index.ensures.next) items part) in
     let here =
-    read-here queue index w (rw c.deref-3.ensures.value at c.soonest_of-index.ensures.within) c.index.ensures in
+    read-here queue index w (rw c.deref-2.ensures.value at c.soonest_of-index.ensures.within) c.index.ensures in
     let waits = next-waits config items queue [] c.args.start slots (Queued index) w here is in
     let late =
     next-later config items tiers queue [] c.args.start slots (Queued index) w has is here
@@ -73,13 +73,13 @@ returns-clause-next c = λ items short has.
     let slots = c.args.room.slots in
     let index = c.soonest_of-index.result in
     let w = c.index.result.now in
-    let tiers = c.args.tiers.now.items in
+    let tiers = c.args.tiers.now in
     let part = queued-part config items tiers queue [] c.args.start slots has in
     let is =
     next-alone config items tiers queue [] c.args.start slots has index refl
-    ((rw (c.deref-3.ensures.value, c.deref-4.ensures.value) at c.soonest_of-index.ensures.next) items part) in
+    ((rw (c.deref-2.ensures.value) at c.soonest_of-index.ensures.next) items part) in
     let here =
-    read-here queue index w (rw c.deref-3.ensures.value at c.soonest_of-index.ensures.within) c.index.ensures in
+    read-here queue index w (rw c.deref-2.ensures.value at c.soonest_of-index.ensures.within) c.index.ensures in
     let waits = next-waits config items queue [] c.args.start slots (Queued index) w here is in
     record {
       at = Queued index;
