@@ -16,6 +16,11 @@ use std::rt::Env;
 use std::{env, io};
 use text_stream::{RunFault, TextFault};
 
+// What the words of `bursts` are.
+const BURSTS_WANTS: &str =
+    "bursts takes numbers of bytes, from 1 to 1048560, and reads its configuration from \
+                            standard input: mapsched bursts < FILE";
+
 /// The words of the command line.
 pub fn words_of(rt: &(impl Env + AllocGlobal)) -> io::Result<Vec<String>> {
     Ok(env::args(rt)?.collect(rt.alloc())?)
@@ -46,6 +51,28 @@ pub fn explain(rt: &(impl Print + Eprint), error: Error) -> ExitCode
         return fail(rt, RunFault::Text(TextFault::Output));
     }
     ExitCode::from(error.exit_code() as u8)
+}
+
+// What a command wants of a word whose value was refused, where it is not what the fault tells.
+fn wanted_by(kind: ErrorKind, name: &str) -> Option<&'static str> {
+    match (kind, name) {
+        (ErrorKind::ValueValidation, "bursts") => Some(BURSTS_WANTS),
+        _ => None,
+    }
+}
+
+/// Prints a fault in these words of the command line as [`explain`] does, and behind it what the command that they name
+/// wants, where a word was given for a number of bytes that is none.
+pub fn explain_words(rt: &(impl Print + Eprint), error: Error, words: &[String]) -> ExitCode
+    ensures memory { kind_of error ≡ ErrorKind.OutOfMemory → exit_status result ≡ 4 }
+{
+    let name = words.get(1).map_or("", |word| word.as_str());
+    let wanted = wanted_by(error.kind(), name);
+    let code = explain(rt, error);
+    if let Some(wanted) = wanted {
+        let _ = rt.eprintln(wanted);
+    }
+    code
 }
 
 // A fault of the command line.

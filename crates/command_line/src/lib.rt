@@ -12,7 +12,8 @@ ghost use Rattle.command_line.specs.Taken.{IsCommand};
 use clap::builder::ValueParser;
 use clap::{Arg, ArgAction, Command};
 pub use ends::{
-    done, exit_of, explain, fail, matches_of, point_to_check, refuse, refuse_file, words_of,
+    done, exit_of, explain, explain_words, fail, matches_of, point_to_check, refuse, refuse_file,
+    words_of,
 };
 pub use input::{CommandInput, KEPT_DOCUMENT, KEPT_LINES, Opened, input_of};
 use std::alloc::{AllocError, Global};

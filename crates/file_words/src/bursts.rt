@@ -1,6 +1,7 @@
 //! What is said of the burst descriptors of a lawful configuration.
 
 use super::config::tell_wrong_request;
+use super::counts::ending_of;
 use bursts_command::{request_of, slots_by};
 use minislots::{Bursts, Checked, Config, Profile};
 use serde_json::Value;
@@ -21,9 +22,11 @@ fn has_short_grants(config: &Checked) -> bool {
 // That no data grant is short.
 fn tell_no_short(words: &mut String, config: &Checked) -> Result<(), AllocError> {
     let most = config.short_max();
+    let s = ending_of(u64::from(most));
     writeln!(
         words,
-        "config, bursts: no data grant is short: each takes more by \"short\" than {most} minislots or than by \"long\""
+        "config, bursts: no data grant is short: each takes more by \"short\" than {most} minislot{s} or than by \
+         \"long\""
     )
 }
 

@@ -24,7 +24,9 @@ fn key_of(field: ConfigFault) -> &'static str {
 // Why the request region is no longer: what has to fit behind it.
 fn rule_of_requests(bursts: &Bursts) -> &'static str {
     match bursts {
-        Bursts::Uniform { .. } => ", so that a burst of one minislot fits behind it in the frame",
+        Bursts::Uniform { .. } => {
+            ", so that the overhead and a minislot of data fit behind it in the frame"
+        }
         Bursts::Described(_) => ", so that a long burst of one byte fits behind it in the frame",
     }
 }

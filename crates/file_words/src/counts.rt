@@ -57,6 +57,11 @@ impl Counts {
     }
 }
 
+/// The ending of a noun behind a number.
+pub fn ending_of(number: u64) -> &'static str {
+    if number == 1 { "" } else { "s" }
+}
+
 /// The minislots of a frame, how long it is, and how many there are in a second. A minislot has a number of ticks of
 /// 6.25 microseconds.
 pub fn tell_frame(words: &mut String, config: &Config) -> Result<(), AllocError> {
@@ -80,8 +85,9 @@ pub fn tell_unrecorded(words: &mut String, config: &Config, calls: u64) -> Resul
     if rest == 0 {
         return Ok(());
     }
+    let are = if rest == 1 { "is" } else { "are" };
     writeln!(
         words,
-        "config: \"calls\" is {recorded}: {rest} of the {calls} calls are not recorded"
+        "config: \"calls\" is {recorded}: {rest} of the {calls} calls {are} not recorded"
     )
 }

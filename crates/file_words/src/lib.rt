@@ -12,6 +12,7 @@ mod notes;
 mod objects;
 mod one_line;
 mod place;
+mod refused;
 mod settling;
 mod sort;
 mod tell;

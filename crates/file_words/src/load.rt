@@ -1,5 +1,6 @@
 //! What is said of flows that together need more than a cycle carries.
 
+use super::counts::ending_of;
 use call_reading::call_of;
 use minislots::{Checked, Config};
 use sched_calls::{Call, FlowSpec};
@@ -188,9 +189,10 @@ pub fn tell_load(
         return Ok(());
     }
     let (reserved, polls, unsolicited) = (most.reserved, most.polls, most.unsolicited);
+    let s = ending_of(carried);
     writeln!(
         words,
-        "flows: a cycle has {carried} minislots behind its request regions, and they need {all}: {reserved} for \
+        "flows: a cycle has {carried} minislot{s} behind its request regions, and they need {all}: {reserved} for \
          reservations, {polls} for polls and {unsolicited} for unsolicited grants"
     )
 }

@@ -7,6 +7,7 @@ use super::place::Place;
 use super::tell::{is_met, tell_near, tell_value};
 use super::written::{Part, begins, find, is_key, parts, shown, text_of, whole};
 use json_fields::forms::{Holds, Member, Missing, Sort};
+use minislots::Checked;
 use std::alloc::{AllocError, Global};
 use std::fmt::Write;
 
@@ -15,6 +16,8 @@ use std::fmt::Write;
 pub struct Notes {
     /// What memory is taken from.
     pub alloc: Global,
+    /// The channel by which each run refuses calls, where it is known.
+    pub channel: Option<Checked>,
     /// What is wrong with the call or the entry that is looked at, or with the document.
     pub here: String,
     /// The calls and the entries with a fault.
@@ -40,6 +43,7 @@ impl Notes {
     pub fn new(alloc: Global) -> Notes {
         Notes {
             alloc,
+            channel: None,
             here: String::new(alloc),
             faulty: Lines::new(alloc),
             refused: Lines::new(alloc),
@@ -89,8 +93,8 @@ impl Notes {
         )
     }
 
-    // That each run refuses a call with this value.
-    fn tell_refused(
+    /// That each run refuses a call with this value.
+    pub fn tell_refused(
         &mut self,
         place: Place,
         member: Member,
@@ -127,7 +131,10 @@ impl Notes {
                 writeln!(self.here, "{place}: \"{key}\" is missing")
             }
             (None, Missing::UnlessSlots) if find(self.alloc, parts, "slots")?.0.is_none() => {
-                writeln!(self.here, "{place}: \"{key}\" is missing")
+                writeln!(
+                    self.here,
+                    "{place}: one of \"{key}\" and \"slots\" is missing"
+                )
             }
             (None, _) => Ok(()),
         }

@@ -111,6 +111,10 @@ impl Notes {
             (Sort::Call, "ask" | "replace") => self.tell_amount(place, parts),
             (Sort::Call, "reserve") => self.tell_usage(place, parts),
             _ => Ok(()),
+        }?;
+        match sort {
+            Sort::Call => self.tell_refused_by(place, name, parts),
+            _ => Ok(()),
         }
     }
 

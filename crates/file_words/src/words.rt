@@ -7,8 +7,9 @@ use super::json_text::tell_text;
 use super::load::tell_load;
 use super::notes::Notes;
 use super::settling::tell_settle;
+use json_fields::config_in;
 use json_fields::forms::Kind;
-use minislots::Config;
+use minislots::{Checked, Config};
 use serde_json::Value;
 use std::alloc::{AllocError, Global};
 use std::fmt::Write;
@@ -36,6 +37,11 @@ fn tell_good(
     }
 }
 
+// The channel of a document, where its configuration is lawful.
+fn channel_of(document: &Value) -> Option<Checked> {
+    config_in(document)?.check().ok()
+}
+
 /// The words on bytes that are no JSON text.
 pub fn words_on_text(alloc: Global, bytes: &[u8]) -> Result<String, AllocError> {
     let mut words = String::new(alloc);
@@ -53,6 +59,7 @@ pub fn words_on(
     found: Result<Config, TextFault>,
 ) -> Result<String, AllocError> {
     let (mut words, mut notes) = (String::new(alloc), Notes::new(alloc));
+    notes.channel = channel_of(document);
     let scripts = notes.tell_document(kind, bytes.trim_ascii())?;
     notes.faulty.put(&mut words, "with a fault")?;
     match found {

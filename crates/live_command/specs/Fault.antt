@@ -1,5 +1,5 @@
 -- Why a conversation ends, and the exit status of the program where it does.
-use Rattle.std.specs.Prelude.{ℕ}
+use Rattle.std.specs.Prelude.{ℕ, List, codes, Option, None, Some}
 use Rattle.text_stream.specs.declared.fault.TextFault.TheVariants as texts
 use Rattle.text_stream.specs.declared.run_fault.RunFault.TheVariants as runs
 use Rattle.text_stream.specs.RunFault.{exit_status_of}
@@ -14,6 +14,19 @@ status_of (Text fault) = exit_status_of (runs.Text fault)
 status_of Journal = 4
 status_of (OtherConfig difference) = 3
 status_of (BadJournal line) = 3
+
+-- what is said behind a fault: how an opening is written that is not JSON
+abbrev pub hint_of : LiveFault → Option (List ℕ)
+hint_of (Text texts.Input) = None
+hint_of (Text texts.TooLong) = None
+hint_of (Text texts.NotJson) = Some (codes "the configuration has to be in one line, which is the first")
+hint_of (Text (texts.Shape n)) = None
+hint_of (Text (texts.Config field)) = None
+hint_of (Text texts.Memory) = None
+hint_of (Text texts.Output) = None
+hint_of Journal = None
+hint_of (OtherConfig difference) = None
+hint_of (BadJournal line) = None
 
 -- why a conversation ends whose journal does not begin
 abbrev pub fault_of_begin : BeginFault → LiveFault

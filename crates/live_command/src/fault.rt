@@ -1,15 +1,18 @@
 //! What is wrong with a line, and why a conversation ends.
 
-ghost use Rattle.std.specs.Prelude.{◌≡◌};
+ghost use Rattle.std.specs.Prelude.{◌≡◌, option_map};
 ghost use Rattle.text_stream.specs.declared.fault.TextFault.TheVariants.{Memory};
 ghost use Rattle.live_command.specs.declared.fault.LiveFault.TheVariants.{Text};
-ghost use Rattle.live_command.specs.Fault.{status_of};
+ghost use Rattle.live_command.specs.Fault.{status_of, hint_of};
 ghost use Rattle.live_command.specs.Spoken.{fault_words};
 
 use crate::difference::Difference;
 use std::alloc::AllocError;
 use text_stream::{RunFault, TextFault};
 use thiserror::Error;
+
+// What a conversation begins with.
+const OPENING_WANTED: &str = "the configuration has to be in one line, which is the first";
 
 /// What is wrong with a line, in the order of the tests.
 #[derive(Clone, Copy, Debug, PartialEq, Eq)]
@@ -69,6 +72,17 @@ impl From<AllocError> for LiveFault {
 }
 
 impl LiveFault {
+    /// What is to be said behind it, where there is more: the opening is not JSON, as where a configuration is spread
+    /// over lines.
+    pub fn hint(self) -> Option<&'static str>
+        ensures { option_map (λ s. s.now) result ≡ hint_of self }
+    {
+        match self {
+            LiveFault::Text(TextFault::NotJson) => Some(OPENING_WANTED),
+            _ => None,
+        }
+    }
+
     /// The exit status of the program: 3 for a fault of the input, 4 for one of the machine.
     pub fn status(self) -> u8
         ensures { result ≡ status_of self }
