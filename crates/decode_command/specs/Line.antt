@@ -8,15 +8,30 @@ use Rattle.decode_command.specs.declared.form.Form.{Form}
 use Rattle.decode_command.specs.declared.form.Form.TheVariants.{Payload, Explained, Frame}
 use Rattle.decode_command.specs.Table.{labelled, ShowsMap}
 use Rattle.decode_command.specs.ExplainedFault.{ShowsFault}
-use Rattle.decode_command.specs.Frame.{ShowsFrame, ShowsFrameFault}
+use Rattle.decode_command.specs.Frame.{IsHexOfFrame, ShowsFrame, ShowsFrameFault}
 use Rattle.decode_command.specs.Asked.{asked_of}
+
+-- what is said behind the fault of a text that is no payload, but a whole frame
+abbrev pub frame_found : List ℕ
+frame_found = codes "this is a whole frame: use --frame\n"
+
+-- behind the fault of a text this is told where it is hexadecimal of a whole frame, and else nothing
+abbrev pub PointsToFrames : List ℕ → List ℕ → List ℕ → Type 0
+PointsToFrames text fault told =
+    (IsHexOfFrame text × (told ≡ fault ++ frame_found)) ⊎ ((IsHexOfFrame text → ⊥) × (told ≡ fault))
+
+-- the text is no payload, and what is said of it is its fault, and that it is a whole frame where it is one
+pub record SaysFault (explained : Bool) (text told : List ℕ) : Type 0 where
+  pub fault : List ℕ
+  pub shows : ShowsFault explained text (Some []) (Some fault)
+  pub behind : PointsToFrames text fault told
 
 -- this is what is shown of a text, which is a payload or a frame; or what is said of one that is none
 abbrev pub Decodes : Form → Option ℕ → List ℕ → Bool → List ℕ → Type 0
 Decodes Payload columns text is told = MatchBool is (ShowsMap columns text (Some []) (Some told))
-    (ShowsFault false text (Some []) (Some told))
+    (SaysFault false text told)
 Decodes Explained columns text is told = MatchBool is (ShowsMap columns text (Some []) (Some told))
-    (ShowsFault true text (Some []) (Some told))
+    (SaysFault true text told)
 Decodes Frame columns text is told = MatchBool is (ShowsFrame columns text (Some []) (Some told))
     (ShowsFrameFault text (Some []) (Some told))
 

@@ -275,6 +275,14 @@ pub(crate) fn decode_frame_digits<W: Sink>(
     }
 }
 
+/// Whether a text is hexadecimal of a whole frame.
+pub(crate) fn is_hex_of_frame(alloc: Global, text: &[u8]) -> Result<bool, RunFault>
+    ensures { IfOk result (λ is_frame. IsTrue is_frame ↔ IsHexOfFrame text.now) }
+{
+    let mut shown = Vec::new(alloc);
+    decode_frame_digits(alloc, text, None, &mut shown)
+}
+
 /// Reads a text as hexadecimal, digits of both cases, and writes what frame it is, answering true: of a MAP's frame
 /// the line `frame map` with the sender's address, and then the table of its payload as
 /// [`decode_text`](crate::decode_text) does, with the drawing where one in so many columns is asked for; of a request

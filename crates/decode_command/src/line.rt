@@ -1,18 +1,53 @@
 //! What is decoded of a line, and what is told of it.
 
-ghost use Rattle.std.specs.Prelude.{◌≡◌, ◌≤◌, [], List, ℕ, length, IfOk, IfErr, Some, true};
+ghost use Rattle.std.specs.Prelude.{◌≡◌, ◌≤◌, [], List, ℕ, length, IfOk, IfErr, OnOk, Some, true};
+ghost use Rattle.std.specs.Bool.{MatchBool};
 ghost use Rattle.text_stream.specs.declared.TheConstants.{MAX_LINE};
 ghost use Rattle.text_stream.specs.Told.{IsTold};
 ghost use Rattle.text_stream.specs.Writing.{Writes};
 ghost use Rattle.decode_command.specs.Line.{Decodes, Becomes, long_text, outcome_of, behind_gap, said_line};
-ghost use Rattle.decode_command.specs.Line.{shown_one, said_one, Says};
+ghost use Rattle.decode_command.specs.Line.{shown_one, said_one, Says, SaysFault, PointsToFrames};
+ghost use Rattle.decode_command.specs.Table.{ShowsMap};
 
 use crate::asked::asked_of;
 use crate::form::Form;
-use crate::frame::decode_frame_digits;
+use crate::frame::{decode_frame_digits, is_hex_of_frame};
 use crate::table::{decode_digits, put_labelled};
 use std::alloc::Global;
 use text_stream::{RunFault, Sink, TextFault, Told, put};
+
+/// What is said behind the fault of a text that is no payload, but a whole frame.
+pub(crate) const FRAME_FOUND: &str = "this is a whole frame: use --frame\n";
+
+// Puts behind the fault of a text that is no payload what is said where it is a whole frame.
+fn point_to_frames(alloc: Global, text: &[u8], buffer: &mut Vec<u8>) -> Result<(), RunFault>
+    ensures { OnOk result (PointsToFrames text.now buffer.old.items buffer.new.items) }
+{
+    if is_hex_of_frame(alloc, text)? {
+        put(buffer, FRAME_FOUND.as_bytes())?;
+    }
+    Ok(())
+}
+
+// Decodes a text as a payload into an empty buffer.
+fn decode_payload(
+    alloc: Global,
+    is_explained: bool,
+    columns: Option<u16>,
+    text: &[u8],
+    buffer: &mut Vec<u8>,
+) -> Result<bool, RunFault>
+    requires { buffer.old.items ≡ [] }
+    ensures { IfOk result (λ is. MatchBool is
+        (ShowsMap columns text.now (Some []) (Some buffer.new.items))
+        (SaysFault is_explained text.now buffer.new.items)) }
+{
+    if decode_digits(alloc, text, columns, is_explained, buffer)? {
+        return Ok(true);
+    }
+    point_to_frames(alloc, text, buffer)?;
+    Ok(false)
+}
 
 // Decodes a text into an empty buffer: whether it is a payload, or a frame.
 fn decode_as(
@@ -26,8 +61,8 @@ fn decode_as(
     ensures { IfOk result (λ is. Decodes form columns text.now is buffer.new.items) }
 {
     match form {
-        Form::Payload => decode_digits(alloc, text, columns, false, buffer),
-        Form::Explained => decode_digits(alloc, text, columns, true, buffer),
+        Form::Payload => decode_payload(alloc, false, columns, text, buffer),
+        Form::Explained => decode_payload(alloc, true, columns, text, buffer),
         Form::Frame => decode_frame_digits(alloc, text, columns, buffer),
     }
 }

@@ -27,8 +27,9 @@ fn stays_well(is_well: bool, found: Option<bool>) -> bool
 /// payload or the frame that it is, or that stands behind the word `map`. What is shown of one is what
 /// [`decode_text`](crate::decode_text) or [`decode_frame`](crate::decode_frame) writes, with an empty line between two.
 /// Of a line that is none it is said to `errors` what those write, behind `line`, its number, counted from 1, and a
-/// colon; all goes on where saying it fails. Empty lines, and what `run` and `live` print for other answers than MAPs,
-/// are passed over. Answers whether no line was wrong.
+/// colon, and that it is a whole frame where it is one in the place of a payload; all goes on where saying it fails.
+/// Empty lines, and what `run` and `live` print for other answers than MAPs, are passed over. Answers whether no line
+/// was wrong.
 pub fn decode_lines<R: Source, W: Sink, E: Sink>(
     alloc: Global,
     form: Form,

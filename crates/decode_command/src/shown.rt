@@ -2,8 +2,9 @@
 //! buffer, so that nothing is left to flush, and the environment.
 
 use crate::form::{Form, JsonForm};
-use crate::frame::decode_frame;
+use crate::frame::{decode_frame, is_hex_of_frame};
 use crate::json_lines::{decode_json, decode_json_lines};
+use crate::line::FRAME_FOUND;
 use crate::lines::decode_lines;
 use crate::table::decode_text;
 use std::io;
@@ -45,19 +46,23 @@ fn columns_of(rt: &impl Env, is_drawn: bool, columns: Option<u16>) -> Option<u16
     columns.or_else(|| columns_told(rt)).or(Some(80))
 }
 
-// Decodes a text.
+// Decodes a text. Of one that is no payload, but a whole frame, standard error says so.
 fn show_text(
-    rt: &(impl Print + AllocGlobal),
+    rt: &(impl Print + Eprint + AllocGlobal),
     text: &str,
     form: Form,
     columns: Option<u16>,
 ) -> Result<bool, RunFault> {
     let mut writer = Watched::new(io::writer(rt));
-    match form {
-        Form::Payload => decode_text(rt.alloc(), text, columns, false, &mut writer),
-        Form::Explained => decode_text(rt.alloc(), text, columns, true, &mut writer),
-        Form::Frame => decode_frame(rt.alloc(), text, columns, &mut writer),
+    let is_payload = match form {
+        Form::Payload => decode_text(rt.alloc(), text, columns, false, &mut writer)?,
+        Form::Explained => decode_text(rt.alloc(), text, columns, true, &mut writer)?,
+        Form::Frame => return decode_frame(rt.alloc(), text, columns, &mut writer),
+    };
+    if !is_payload && let Ok(true) = is_hex_of_frame(rt.alloc(), text.as_bytes()) {
+        let _ = rt.eprint(FRAME_FOUND);
     }
+    Ok(is_payload)
 }
 
 // Decodes the lines of standard input.
