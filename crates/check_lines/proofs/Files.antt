@@ -11,7 +11,7 @@ use Rattle.check_lines.specs.declared.front.Front.{Front}
 use Rattle.check_lines.specs.declared.form.CheckForm.{CheckForm}
 use Rattle.check_lines.specs.declared.kind.FileKind.{FileKind}
 use Rattle.check_lines.specs.declared.verdict.Verdict.{Verdict}
-use Rattle.check_lines.specs.Front.{unread_of, at_hand, IsLookedAt, IsFront}
+use Rattle.check_lines.specs.Front.{unread_of, behind_of, at_hand, IsLookedAt, IsFront}
 use Rattle.check_lines.specs.Kind.{kind_of_front}
 use Rattle.check_lines.specs.Check.{ChecksAs, ChecksAny, StopsAs, StopsAny}
 use Rattle.check_lines.proofs.Fronts.{IsFront-looked}
@@ -34,7 +34,7 @@ module _ (form : CheckForm) {R : Type 0} (remaining : R → Option (List ℕ)) (
   is_front : IsFront (unread_of remaining looked) front
   is_front =
       subst (IsFront (unread_of remaining looked)) (sym front_is)
-      (IsFront-looked (remaining looked.reader) (at_hand looked) is_looked)
+      (IsFront-looked (behind_of remaining looked) (at_hand looked) is_looked)
 
   -- they were, and the file was checked as that kind
   pub ChecksAny-as : (before after : Option (List ℕ)) (r : Result Verdict RunFault)

@@ -56,11 +56,21 @@ is_read Both Script = true
 is_read Both Storm = false
 is_read Both History = true
 
--- the command for documents of this kind
-abbrev pub command_for : Kind → Advice
-command_for Script = advice.Run
-command_for Storm = advice.Storm
-command_for History = advice.Audit
+-- what to do with a script: for a command that reads histories alone a run makes one, in lines where a journal is asked
+-- for
+abbrev pub advice_on_script : Documents → Journals → Advice
+advice_on_script Scripts journals = advice.Run
+advice_on_script Storms journals = advice.Run
+advice_on_script Histories Never = advice.RunHistory
+advice_on_script Histories Unasked = advice.RunHistory
+advice_on_script Histories Asked = advice.RunJournal
+advice_on_script Both journals = advice.Run
+
+-- what to do with a document of this kind that is not read
+abbrev pub command_for : Kind → Documents → Journals → Advice
+command_for Script documents journals = advice_on_script documents journals
+command_for Storm documents journals = advice.Storm
+command_for History documents journals = advice.Audit
 
 -- what to do with a journal
 abbrev pub advice_on_journal : Journals → Option Advice
@@ -77,6 +87,6 @@ advice_on_read Asked = Some advice.NoJournal
 -- what to do with an input that was given to a command
 abbrev pub advice_on : InputKind → Documents → Journals → Option Advice
 advice_on (input.Document kind) documents journals =
-    if is_read documents kind then advice_on_read journals else Some (command_for kind)
+    if is_read documents kind then advice_on_read journals else Some (command_for kind documents journals)
 advice_on input.Journal documents journals = advice_on_journal journals
 advice_on input.Live documents journals = Some advice.Live

@@ -1,8 +1,9 @@
 //! A reader whose first bytes can be looked at before they are read.
 
 ghost use Rattle.std.specs.Prelude.{◌≡◌, ◌⊎◌, ◌≤◌, IfErr, OnOk, take, vec_len};
-ghost use Rattle.std.specs.Io.KnownBytes.{Keeps};
-ghost use Rattle.text_stream.specs.Watched.{FailsBy};
+ghost use Rattle.std.specs.Io.{ReadsAtMost};
+ghost use Rattle.std.specs.Io.KnownBytes.{Keeps, ReadConsumes};
+ghost use Rattle.text_stream.specs.Watched.{FailsBy, TellsFailure};
 ghost use Rattle.check_lines.specs.declared.front.TheConstants.{FRONT};
 
 use std::alloc::Global;
@@ -22,11 +23,13 @@ pub struct Front<R> {
     bytes: Vec<u8>,
     // How many of them were given.
     given: usize,
+    // Whether the reader has told its end. It is not asked again: at a terminal it would read on.
+    has_ended: bool,
     ghost given_within: { given ≤ vec_len bytes },
 }
 
 impl<R: Source> Front<R> {
-    ghost use Rattle.check_lines.specs.Front.{unread_of, failed_of, at_hand, IsLookedAt};
+    ghost use Rattle.check_lines.specs.Front.{unread_of, behind_of, failed_of, at_hand, IsLookedAt};
 
     /// A reader of which nothing was looked at.
     pub fn new(alloc: Global, reader: R) -> Front<R>
@@ -37,6 +40,7 @@ impl<R: Source> Front<R> {
             reader,
             bytes: Vec::new(alloc),
             given: 0,
+            has_ended: false,
         }
     }
 
@@ -50,12 +54,16 @@ impl<R: Source> Front<R> {
         ensures failed { FailsBy TextFault.Input result
             (failed_of R.has_failed self.old) (failed_of R.has_failed self.new) }
     {
+        if self.has_ended {
+            return Ok(());
+        }
         let mut piece = [0; PIECE];
         while self.bytes.len() - self.given < FRONT {
             let Ok(len) = self.reader.read_some(&mut piece) else {
                 return Err(TextFault::Input);
             };
             if len == 0 {
+                self.has_ended = true;
                 return Ok(());
             }
             self.bytes.extend_from_slice(&piece[..len])?;
@@ -69,6 +77,21 @@ impl<R: Source> Front<R> {
     {
         let left = &self.bytes[self.given..];
         &left[..left.len().min(FRONT)]
+    }
+
+    // Reads on behind the bytes that were looked at, unless they are all.
+    fn read_behind(&mut self, buf: &mut [u8]) -> io::Result<usize>
+        ensures same { at_hand self.new ≡ at_hand self.old }
+        ensures bound { ReadsAtMost result buf.new }
+        ensures bytes { ReadConsumes (behind_of R.remaining self.old) (behind_of R.remaining self.new)
+            result buf.new }
+        ensures failed { TellsFailure result
+            (failed_of R.has_failed self.old) (failed_of R.has_failed self.new) }
+    {
+        if self.has_ended {
+            return Ok(0);
+        }
+        self.reader.read_some(buf)
     }
 
     /// The bytes that were looked at, given or not.
@@ -86,7 +109,7 @@ impl<R: Source> Source for Front<R> {
 
     fn read_some(&mut self, buf: &mut [u8]) -> io::Result<usize> {
         if self.given == self.bytes.len() {
-            return self.reader.read_some(buf);
+            return self.read_behind(buf);
         }
         let mut left = &self.bytes[self.given..];
         match left.read_some(buf) {

@@ -4,13 +4,14 @@ ghost use Rattle.std.specs.Prelude.{◌≡◌, IfOk, IfErr};
 ghost use Rattle.serde_json.specs.View.{view};
 ghost use Rattle.text_stream.specs.Input.{value_of};
 ghost use Rattle.check_lines.specs.InputKind.{kind_told, document_told, input_kind};
-ghost use Rattle.check_lines.specs.InputKind.{is_read, command_for, advice_on_journal, advice_on_read, advice_on};
+ghost use Rattle.check_lines.specs.InputKind.{is_read, advice_on_script, command_for, advice_on_journal};
+ghost use Rattle.check_lines.specs.InputKind.{advice_on_read, advice_on};
 
 use crate::document_kind::{has, kind_in};
 use crate::kind::{FileKind, kind_of_front};
 use json_fields::forms::Kind;
 use serde_json::Value;
-use std::alloc::Global;
+use std::alloc::{AllocError, Global};
 use text_stream::{TextFault, parse};
 
 /// What an input is.
@@ -66,6 +67,10 @@ pub enum Advice {
     NoJournal,
     /// To use `run`.
     Run,
+    /// To give the command the history of a run.
+    RunHistory,
+    /// To give it the journal of a run.
+    RunJournal,
     /// To use `storm`.
     Storm,
     /// To use `audit`.
@@ -122,12 +127,23 @@ fn is_read(documents: Documents, kind: Kind) -> bool
     }
 }
 
+// What to do with a script: a command that judges a history, or tells of one, needs that of a run.
+fn advice_on_script(reads: Reads) -> Advice
+    ensures { result ≡ advice_on_script reads.documents reads.journals }
+{
+    match (reads.documents, reads.journals) {
+        (Documents::Histories, Journals::Asked) => Advice::RunJournal,
+        (Documents::Histories, _) => Advice::RunHistory,
+        _ => Advice::Run,
+    }
+}
+
 // The command for documents of this kind.
-fn command_for(kind: Kind) -> Advice
-    ensures { result ≡ command_for kind }
+fn command_for(kind: Kind, reads: Reads) -> Advice
+    ensures { result ≡ command_for kind reads.documents reads.journals }
 {
     match kind {
-        Kind::Script => Advice::Run,
+        Kind::Script => advice_on_script(reads),
         Kind::Storm => Advice::Storm,
         Kind::History => Advice::Audit,
     }
@@ -164,7 +180,7 @@ pub fn advice_on(kind: InputKind, reads: Reads) -> Option<Advice>
         InputKind::Document(kind) if is_read(reads.documents, kind) => {
             advice_on_read(reads.journals)
         }
-        InputKind::Document(kind) => Some(command_for(kind)),
+        InputKind::Document(kind) => Some(command_for(kind, reads)),
     }
 }
 
@@ -179,28 +195,45 @@ fn name_of(kind: InputKind) -> &'static str {
     }
 }
 
-// What to do, in words.
-fn words_of(advice: Advice) -> &'static str {
-    match advice {
+// What to do, in words: with the name of the command, where it reads what another one makes.
+fn words_of(alloc: Global, advice: Advice, command: &str) -> Result<String, AllocError> {
+    let words = match advice {
         Advice::Journal => "use --journal",
         Advice::NoJournal => "leave out --journal",
         Advice::Run => "use mapsched run",
+        Advice::RunHistory => {
+            return format!(in alloc; "use mapsched run --history FILE | mapsched {command}");
+        }
+        Advice::RunJournal => {
+            return format!(in alloc;
+                "use mapsched run --journal FILE | mapsched {command} --journal"
+            );
+        }
         Advice::Storm => "use mapsched storm",
         Advice::Audit => "use mapsched audit",
         Advice::AuditJournal => "use mapsched audit --journal",
         Advice::Live => "use mapsched live",
-    }
+    };
+    String::from_str(alloc, words)
 }
 
-/// Tells on standard error what an input is that begins with these bytes, and what to do with it, where the command
-/// that it was given to does not read it as it is. Whether anything was told.
-pub fn tell_input(rt: &(impl Eprint + AllocGlobal), bytes: &[u8], reads: Reads) -> bool {
+/// Tells on standard error what an input is that begins with these bytes, and what to do with it, where the command of
+/// this name that it was given to does not read it as it is. Whether anything was told.
+pub fn tell_input(
+    rt: &(impl Eprint + AllocGlobal),
+    bytes: &[u8],
+    command: &str,
+    reads: Reads,
+) -> bool {
     let Ok(Some(kind)) = input_kind(rt.alloc(), bytes) else {
         return false;
     };
     let Some(advice) = advice_on(kind, reads) else {
         return false;
     };
-    let _ = rt.eprintln(format_args!("this is {}: {}", name_of(kind), words_of(advice)));
+    let Ok(words) = words_of(rt.alloc(), advice, command) else {
+        return false;
+    };
+    let _ = rt.eprintln(format_args!("this is {}: {words}", name_of(kind)));
     true
 }

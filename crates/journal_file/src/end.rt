@@ -90,6 +90,10 @@ impl Display for JournalEnd<'_> {
             Cause::Fault(JournalFault::File(FileFault::Failed)) => {
                 write!(f, "journal failed\nread {path}: it was changed meanwhile")
             }
+            Cause::Fault(JournalFault::Live(fault)) => match fault.hint() {
+                Some(hint) => write!(f, "{fault}\n{hint}"),
+                None => write!(f, "{fault}"),
+            },
             Cause::Fault(fault) => write!(f, "{fault}"),
             Cause::Failed(call) => {
                 let what = call.operation.words();

@@ -10,7 +10,7 @@ use bursts_command::bursts_input;
 use clap::ArgMatches;
 use clap::error::ErrorKind;
 use command_line::{
-    Terminals, done, exit_of, explain, fail, matches_of, refuse, tell_waiting, terminals_of,
+    Terminals, done, exit_of, explain_words, fail, matches_of, refuse, tell_waiting, terminals_of,
     words_of,
 };
 use decode_command::{STANDARD_INPUT, show, show_json};
@@ -93,6 +93,9 @@ fn live<R: Files<File = File> + Input + Print + Eprint + AllocGlobal>(
         Ok(()) => ExitCode::SUCCESS,
         Err(fault) => {
             let _ = rt.eprintln(fault);
+            if let Some(hint) = fault.hint() {
+                let _ = rt.eprintln(hint);
+            }
             ExitCode::from(fault.status())
         }
     }
@@ -120,6 +123,6 @@ fn main(rt: HostRuntime) -> ExitCode {
     };
     match matches_of(rt.alloc(), &words) {
         Ok(matches) => answer(&rt, &matches, terminals_of(rt)),
-        Err(error) => explain(&rt, error),
+        Err(error) => explain_words(&rt, error, &words),
     }
 }

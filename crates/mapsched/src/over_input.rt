@@ -64,9 +64,10 @@ fn most_kept(name: &str, reads: Reads) -> usize {
     }
 }
 
-// An input that a command reads.
+// An input that the command of a name reads.
 #[derive(Drop)]
 struct Given<'a, 'w, R> {
+    name: &'a str,
     input: CommandInput<R>,
     reads: Reads,
     words: &'a ArgMatches<'w>,
@@ -82,7 +83,7 @@ fn advise<R: Source>(rt: &(impl Eprint + AllocGlobal), fault: TextFault, given: 
     ) {
         return;
     }
-    if !tell_input(rt, given.input.kept(), given.reads) {
+    if !tell_input(rt, given.input.kept(), given.name, given.reads) {
         point_to_check(rt, fault, given.words);
     }
 }
@@ -276,6 +277,7 @@ where
     };
     tell_waiting(rt, name, words, terminals);
     let mut given = Given {
+        name,
         input,
         reads,
         words,

@@ -6,8 +6,8 @@
 use clap::ArgMatches;
 use clap::error::ErrorKind;
 use command_line::{
-    CommandInput, Terminals, done, exit_of, explain, fail, input_of, matches_of, point_to_check,
-    refuse, refuse_file, refuse_terminal, tell_waiting, terminals_of, words_of,
+    CommandInput, Terminals, done, exit_of, explain_words, fail, input_of, matches_of,
+    point_to_check, refuse, refuse_file, refuse_terminal, tell_waiting, terminals_of, words_of,
 };
 use decode_command::{Form, JsonForm, STANDARD_INPUT, show, show_json};
 use journal_entries::EntriesEnd;
@@ -156,6 +156,6 @@ fn main(rt: HostRuntime) -> ExitCode {
     };
     match matches_of(rt.alloc(), &words) {
         Ok(matches) => answer(&rt, &matches, terminals_of(rt)),
-        Err(error) => explain(&rt, error),
+        Err(error) => explain_words(&rt, error, &words),
     }
 }
