@@ -64,6 +64,8 @@ class Life:
         self.first, self.last = first, None
         self.asked = self.granted = self.asks = self.replaces = self.replaced = self.under = 0
         self.unserved, self.delays = deque(), []
+        # Of what waits up to two batches: where each ends in the bytes asked, and the least minislot of its requests.
+        self.batches = []
         self.rate, self.peak, self.reserved = rate_of(flow, first), peak_of(flow, first), reserved_of(flow, first)
         self.voice_at, self.late = None, 0
         self.rests, self.silent = False, 0
@@ -77,8 +79,22 @@ class Life:
         return (self.asked, self.granted, self.asked - self.granted) if asks else (0, 0, 0)
 
     def ask(self, count, heard):
+        if not self.outstanding():
+            self.batches.clear()
         self.asked, self.asks = self.asked + count, self.asks + 1
         self.unserved.append((self.asked, heard))
+        if len(self.batches) == 2:
+            heard = min(heard, self.batches.pop()[1])
+        self.batches.append((self.asked, heard))
+
+    def ends_map(self):
+        """A MAP has been obeyed: where all of the first batch is granted, the second is the first."""
+        if self.batches and self.batches[0][0] <= self.granted:
+            self.batches.pop(0)
+
+    def since(self):
+        """The least minislot at which a request of its batches was heard."""
+        return min(heard for _, heard in self.batches)
 
     def replace(self, count, heard):
         """A request in the place of those that are not served, which nobody serves any more."""

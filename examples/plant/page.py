@@ -73,12 +73,13 @@ def flow_lines(counts):
 def warnings(plant):
     """What a user of another plant than the usual one may not expect."""
     counts = plant.counts
+    flows, periodic = plant.config.get("flows", 64), plant.config.get("periodic", 40)
     if counts.refused[4]:
-        yield (f"this channel has at most 64 live flows, so {counts.refused[4]} admissions were refused: of"
+        yield (f"this channel has at most {flows} live flows, so {counts.refused[4]} admissions were refused: of"
                f" {len(plant.modems)} modems the others waited for their turn")
     if counts.refused[5] or counts.refused[6]:
-        yield (f"telephones and cameras found no room: {counts.refused[5]} admissions were above 40 grants and polls,"
-               f" and {counts.refused[6]} had no lawful place")
+        yield (f"telephones and cameras found no room: {counts.refused[5]} admissions were above {periodic} grants and"
+               f" polls, and {counts.refused[6]} had no lawful place")
     part, late = counts.starved(plant.next, SECOND)
     for rank, slow, asks in late:
         yield (f"polled flows are served first, and starve priority {rank}: they have {int(100 * part)} % of the bytes,"

@@ -182,8 +182,18 @@ class Plant:
             modem.reads(map_, granted.union(map_.pending))
         for element in map_.elements:
             self.counts.use[self.use(map_, element)] += element.slots
-        owed = [sid for sid, life in sorted(self.counts.live.items()) if life.outstanding()]
+        owed = self.shown()
         expect(map_.pending == owed, f"pending are {map_.pending}, not {owed}")
+
+    def shown(self):
+        """The SIDs of the flows that a MAP shows by pending grants: of those that wait after it the first so many, by the
+        minislot since which they wait."""
+        waiting = []
+        for sid, life in self.counts.live.items():
+            life.ends_map()
+            if life.outstanding():
+                waiting.append((life.since(), sid))
+        return sorted(sid for _, sid in sorted(waiting)[:self.config.get("pending", 64)])
 
     def use(self, map_, element):
         """What an element's minislots are used for, when it has been used."""
@@ -284,6 +294,9 @@ def arguments():
     reader.add_argument("--modems", metavar="N", type=int, help=modems)
     reader.add_argument("--telephones", metavar="N", type=int, help="so many of the modems are telephones")
     reader.add_argument("--cameras", metavar="N", type=int, help="so many are cameras")
+    reader.add_argument("--flows", metavar="N", type=int, help="so many flows may be live at a time (64)")
+    reader.add_argument("--pending", metavar="N", type=int, help="a MAP shows so many that wait (64)")
+    reader.add_argument("--periodic", metavar="N", type=int, help="so many telephones and cameras have a place (40)")
     reader.add_argument("--seed", type=int, default=1, help="another plant for another number (1)")
     reader.add_argument("--open-idle", action="store_true", help="modems may ask in idle minislots too")
     reader.add_argument("--journal", metavar="FILE", help="keeps a journal; where it has calls, the plant goes on")
@@ -307,6 +320,13 @@ def crowd_of(given):
     return Crowd(telephones, cameras, Crowd().computers if given.modems is None else whole - telephones - cameras)
 
 
+def config_of(given):
+    """The channel's configuration, with what was asked for."""
+    asked = {"flows": given.flows, "pending": given.pending, "periodic": given.periodic}
+    asked["open_idle"] = 1 if given.open_idle else None
+    return {**CONFIG, **{name: value for name, value in asked.items() if value is not None}}
+
+
 def it_has(crowd):
     return ", ".join(f"{many} {kind}" for kind, many in crowd._asdict().items())
 
@@ -323,7 +343,7 @@ def main():
         signal.signal(number, Stopped.raised)
     try:
         chosen = name_checked(given.program) if given.program else program()
-        config = {**CONFIG, "open_idle": 1} if given.open_idle else CONFIG
+        config = config_of(given)
         with (Again if given.journal else Live)(config, chosen, given.journal) as live:
             plant = Plant(live, config, given.seed, given.crowd)
             plant.run(given.seconds)
