@@ -32,6 +32,11 @@ OFFICE = {"kind": "best_effort", "priority": 5, "rate": 2000000, "burst": 20000}
 HOME = {"kind": "best_effort", "priority": 2, "rate": 1000000, "burst": 10000}
 FASTER_HOME = {**HOME, "rate": 3000000, "burst": 20000}
 DISK = {"kind": "best_effort", "priority": 0, "rate": 0, "burst": 0}
+# Three tiers of homes: what each may have at most, for a moment at most, and at least.
+TIERS = [
+    {**HOME, "rate": rate, "burst": 10000, "peak": 3 * rate, "reserved": reserved, "reserved_burst": 512}
+    for rate, reserved in [(1000000, 256000), (2000000, 512000), (5000000, 1000000)]
+]
 
 HABITS = [
     *3 * [(OFFICE, Habits((90, 900), (20000, 60000), 60, (5 * MILLISECOND, 30 * MILLISECOND), 16000))],
@@ -52,8 +57,10 @@ class Crowd(NamedTuple):
     computers: int = 15
 
 
-def modems_of(seed, now, crowd):
+def modems_of(seed, now, crowd, has_tiers=False):
     habits = [HABITS[at * len(HABITS) // crowd.computers] for at in range(crowd.computers)]
+    if has_tiers:
+        habits = [(TIERS[at % 3] if flow == HOME else flow, its) for at, (flow, its) in enumerate(habits)]
     return [
         *(Telephone(101 + at, VOICE[at % 2], seed, now) for at in range(crowd.telephones)),
         *(Camera(201 + at, VIDEO, seed, now) for at in range(crowd.cameras)),

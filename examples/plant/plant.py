@@ -16,7 +16,7 @@ sys.dont_write_bytecode = True
 
 from again import Again  # noqa: E402
 from channel import CONFIG, FASTER_HOME, HOME, LATE_BY, MISSED, MOST, NOISE, READING, REQUEST_SLOTS  # noqa: E402
-from channel import SILENT, TIER_FOR, WELL_FOR, Crowd, modems_of  # noqa: E402
+from channel import SILENT, TIER_FOR, TIERS, WELL_FOR, Crowd, modems_of  # noqa: E402
 from client import Changed, Ended, Fault, Live, Refused  # noqa: E402
 from counts import Counts  # noqa: E402
 from maps import ALL_MODEMS, NOBODY, REQUEST, read_map  # noqa: E402
@@ -67,11 +67,12 @@ class Voice:
 class Plant:
     """The channel's time, its receiver and its modems. `live` is who answers the calls."""
 
-    def __init__(self, live, config=CONFIG, seed=1, crowd=Crowd()):
+    def __init__(self, live, config=CONFIG, seed=1, crowd=Crowd(), has_tiers=False):
         self.live, self.config, self.counts = live, config, Counts(config)
         self.next = self.progress = config["start"]
         self.bursts, self.voices = [], []
-        self.modems = {modem.sid: modem for modem in modems_of(seed, self.next, crowd)}
+        self.modems = {modem.sid: modem for modem in modems_of(seed, self.next, crowd, has_tiers)}
+        self.tiers = TIERS if has_tiers else [HOME, FASTER_HOME]
         self.chance = random.Random(f"{seed} head end")
         self.late_at = self.next + self.chance.randrange(*WELL_FOR)
         self.tier_at = self.next + self.chance.randrange(*TIER_FOR)
@@ -135,11 +136,11 @@ class Plant:
 
     def change_tier(self, now):
         """Now and then a home gets another tier, and has that too when it is switched on again."""
-        homes = [modem for modem in self.modems.values() if modem.life and modem.flow in (HOME, FASTER_HOME)]
+        homes = [modem for modem in self.modems.values() if modem.life and modem.flow in self.tiers]
         if now >= self.tier_at and homes:
             self.tier_at = now + self.chance.randrange(*TIER_FOR)
             modem = self.chance.choice(homes)
-            modem.flow = HOME if modem.flow == FASTER_HOME else FASTER_HOME
+            modem.flow = self.tiers[(self.tiers.index(modem.flow) + 1) % len(self.tiers)]
             expect(self.call("change", modem.sid, modem.flow) == Changed(), f"SID {modem.sid} has no other tier")
             modem.life.change(modem.flow, self.next)
 
@@ -294,6 +295,7 @@ def arguments():
     reader.add_argument("--modems", metavar="N", type=int, help=modems)
     reader.add_argument("--telephones", metavar="N", type=int, help="so many of the modems are telephones")
     reader.add_argument("--cameras", metavar="N", type=int, help="so many are cameras")
+    reader.add_argument("--tiers", action="store_true", help="homes have three tiers, with reserved and peak rates")
     reader.add_argument("--flows", metavar="N", type=int, help="so many flows may be live at a time (64)")
     reader.add_argument("--pending", metavar="N", type=int, help="a MAP shows so many that wait (64)")
     reader.add_argument("--periodic", metavar="N", type=int, help="so many telephones and cameras have a place (40)")
@@ -345,7 +347,7 @@ def main():
         chosen = name_checked(given.program) if given.program else program()
         config = config_of(given)
         with (Again if given.journal else Live)(config, chosen, given.journal) as live:
-            plant = Plant(live, config, given.seed, given.crowd)
+            plant = Plant(live, config, given.seed, given.crowd, given.tiers)
             plant.run(given.seconds)
             if given.journal:
                 tell_what_is_left(live, given.journal)
