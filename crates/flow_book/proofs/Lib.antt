@@ -7,6 +7,7 @@ pub mod SlotSids
 pub mod Buckets
 pub mod Changes
 pub mod FirstGrant
+pub mod Gaps
 pub mod Levels
 pub mod Lines
 pub mod Matching

@@ -487,3 +487,18 @@ module _ (c : Config) (items : List Flow) (tiers after : List Tier) (queue serve
     tiered = granted-tiers b all put;
     rest = granted-rest b put;
   }
+
+module _ (c : Config) (before flows : List LiveFlow) (is_long : Bool) (queue served : List Waiting) (tiers : List Tier)
+    (capacity first : ℕ) (old : List Flow) (o : IsOverlay c before flows is_long queue served tiers capacity first)
+    (book : IsBook c old) (is-before : map live old ≡ before) where
+  -- where many waited those served can be taken over
+  pub can-long : is_long ≡ true → CanBeTaken c old o.items tiers served
+  can-long many =
+      subst (λ b. CanBeTaken c old o.items tiers (served_of b queue served)) many
+      (can-be-taken c before flows is_long queue served tiers capacity first old o book is-before)
+
+  -- and where few did those of the queue
+  pub can-short : is_long ≡ false → CanBeTaken c old o.items tiers queue
+  can-short few =
+      subst (λ b. CanBeTaken c old o.items tiers (served_of b queue served)) few
+      (can-be-taken c before flows is_long queue served tiers capacity first old o book is-before)

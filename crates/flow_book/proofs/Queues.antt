@@ -169,7 +169,7 @@ module _ (items : List Flow) where
       ap (λ (e : ℕ × ℕ × BucketView × Bool). e.0) (same-some (told v) (told w)
       (sym at ∙ ap (λ k. option_map entry_of (slice_get items k)) same ∙ at'))
 
-  later : (w : Waiting) (queue : List Waiting) → IsAt items w → AllByRecursion (IsAt items) queue
+  pub later : (w : Waiting) (queue : List Waiting) → IsAt items w → AllByRecursion (IsAt items) queue
       → AllByRecursion (λ v. w.turn < v.turn) queue → AllByRecursion (λ v. v.place ≢ w.place) queue
   later w [] at all above = tt
   later w (v ∷ queue) at all above =

@@ -4,6 +4,7 @@ pub use Rattle.sched_calls.specs.FlowSpec
 pub mod Batches
 pub mod Flows
 pub mod Granted
+pub mod Gap
 pub mod Slots
 pub mod Lending
 pub mod FlowList

@@ -19,13 +19,14 @@ use crate::channel::Channel;
 use crate::flow::{Flow, first_eligible, reserve_each};
 use crate::flows::Flows;
 use crate::overlay::Overlay;
-use crate::queue::{copy_of, follow, leave, make_room, make_way, queue_of};
+use crate::queue::{copy_of, follow, leave, make_room, make_way, queue_of, take_or_make};
 use crate::shown::Shown;
 use crate::under::under_at;
 use crate::waiting::Waiting;
 use minislots::Checked;
 use sched_calls::FlowSpec;
 use std::alloc::{AllocError, Global};
+use std::collections::VecDeque;
 use std::marker::Model;
 
 /// The live flows of one channel, in order of SID. Each has its parameters, the bytes that it asked
@@ -35,7 +36,7 @@ pub struct Book {
     channel: Channel,
     flows: Flows,
     // The flows that wait, by their turns, where they are known.
-    queue: Vec<Waiting>,
+    queue: VecDeque<Waiting>,
     is_queued: bool,
 }
 
@@ -78,7 +79,7 @@ impl Book {
         Ok(Book {
             channel: Channel::of(alloc, config)?,
             flows: Flows::new(alloc),
-            queue: Vec::new(alloc),
+            queue: VecDeque::new(alloc),
             is_queued: true,
         })
     }
@@ -314,23 +315,39 @@ impl Book {
           flows = self.now.flows;
         }) }
     {
+        let alloc = self.flows.allocator();
         let queue = if self.is_queued {
-            copy_of(&self.queue)?
+            copy_of(alloc, &self.queue)?
         } else {
-            queue_of(self.flows.allocator(), &self.flows)?
+            queue_of(alloc, &self.flows)?
         };
+        Overlay::over(&self.channel, &self.flows, queue)
+    }
+
+    /// The same as [`Book::overlay`], for a MAP that the book is to take in: what it keeps of the flows that wait goes
+    /// with the overlay, and is not copied. [`Book::take_in`] brings it back; otherwise it is made anew when it is needed.
+    pub fn lend(&mut self) -> Result<Overlay, AllocError>
+        ensures overlay { IfOk result (λ overlay. overlay ≡ record {
+          config = self.old.config;
+          before = self.old.flows;
+          flows = self.old.flows;
+        }) }
+        ensures same { self.new ≡ self.old }
+    {
+        let queue = take_or_make(&mut self.queue, &mut self.is_queued, &self.flows)?;
         Overlay::over(&self.channel, &self.flows, queue)
     }
 
     /// The flows that the MAP of an overlay shows by pending grants, in order of SID, and its acknowledge time, where all
     /// receivers have handed in what they heard before the progress. The overlay was made of this book, whose flows have
     /// not changed since.
-    pub fn show(&self, overlay: &Overlay, progress: u64) -> Result<Shown, AllocError>
-        requires { overlay.now.before ≡ self.now.flows }
+    pub fn show(&self, overlay: &mut Overlay, progress: u64) -> Result<Shown, AllocError>
+        requires { overlay.old.before ≡ self.now.flows }
         ensures pending { IfOk result (λ s. s.pending.items ≡ map (λ f. f.sid)
-            (filter (is_shown overlay.now.config.pending overlay.now.flows) overlay.now.flows)) }
+            (filter (is_shown overlay.old.config.pending overlay.old.flows) overlay.old.flows)) }
         ensures ack { IfOk result
-            (λ s. s.ack ≡ ack_of overlay.now.config.pending progress overlay.now.flows) }
+            (λ s. s.ack ≡ ack_of overlay.old.config.pending progress overlay.old.flows) }
+        ensures same { overlay.new ≡ overlay.old }
     {
         overlay.show(&self.flows, progress)
     }
@@ -343,7 +360,9 @@ impl Book {
         ensures flows { self.new.flows ≡ overlay.flows }
         ensures config { self.new.config ≡ self.old.config }
     {
-        self.is_queued = overlay.put_into(&mut self.flows, &mut self.queue);
+        let queue = overlay.put_into(&mut self.flows);
+        self.is_queued = queue.is_some();
+        self.queue = queue.unwrap_or(VecDeque::new(self.flows.allocator()));
     }
 
     // The live flow with this SID.

@@ -9,6 +9,7 @@ mod channel;
 mod flow;
 mod flow_list;
 mod flows;
+mod gap;
 mod granted;
 mod limits;
 mod overlay;

@@ -17,25 +17,30 @@ use crate::flow_list::{FlowList, list_of};
 use crate::flows::Flows;
 use crate::parts::serve_first;
 use crate::shown::{Shown, show};
-use crate::taking::{merge, put_back, take_over};
+use crate::taking::{drop_idle, merge, take_over};
 use crate::tiers::{Tier, tiers_of};
 use crate::waiting::Waiting;
 use minislots::Checked;
-use std::alloc::AllocError;
+use std::alloc::{AllocError, Global};
+use std::collections::VecDeque;
 use std::marker::Model;
 
 // Of so many flows that wait one that is served stays in their queue: it moves back by few steps, and takes no memory.
 const FEW: usize = 32;
 
 // Memory for as many served flows as wait where they are many, and else none.
-fn room_for_served(queue: &Vec<Waiting>, is_long: bool) -> Result<Vec<Waiting>, AllocError>
+fn room_for_served(
+    alloc: Global,
+    queue: &VecDeque<Waiting>,
+    is_long: bool,
+) -> Result<Vec<Waiting>, AllocError>
     ensures none { IfOk result (λ served. served.items ≡ []) }
     ensures room { IfOk result (λ served. HasRoom is_long queue.now.items [] (vec_capacity served)) }
 {
     if is_long {
-        return Vec::with_capacity(*queue.allocator(), queue.len());
+        return Vec::with_capacity(alloc, queue.len());
     }
-    Ok(Vec::new(*queue.allocator()))
+    Ok(Vec::new(alloc))
 }
 
 /// The live flows of a book with the data grants of a MAP that is planned. The book stays as it is until
@@ -46,7 +51,7 @@ pub struct Overlay {
     channel: Channel,
     // The flows that waited before the MAP, by their turns. Where they are many one that it served wants nothing here,
     // and else it has here what it still wants.
-    queue: Vec<Waiting>,
+    queue: VecDeque<Waiting>,
     // Where many wait none of the queue before this place wants anything.
     first: usize,
     // Where many waited those that the MAP served, with what they still want, by their turns.
@@ -83,7 +88,7 @@ impl Overlay {
     pub(crate) fn over(
         channel: &Channel,
         flows: &Flows,
-        queue: Vec<Waiting>,
+        queue: VecDeque<Waiting>,
     ) -> Result<Overlay, AllocError>
         requires book { IsBook channel.now flows.now }
         requires queue { IsQueue flows.now queue.items }
@@ -94,9 +99,10 @@ impl Overlay {
         }) }
     {
         let mut queue = queue;
-        let tiers = tiers_of(*queue.allocator(), &mut queue, flows)?;
+        let alloc = flows.allocator();
+        let tiers = tiers_of(alloc, queue.make_contiguous(), flows)?;
         let is_long = queue.len() > FEW;
-        let served = room_for_served(&queue, is_long)?;
+        let served = room_for_served(alloc, &queue, is_long)?;
         let before = list_of(flows);
         Ok(Overlay {
             channel: channel.again()?,
@@ -138,7 +144,7 @@ impl Overlay {
         let bytes = config.most_in(room);
         let room = Room { slots: room, bytes };
         let served = serve_first(
-            &mut self.queue,
+            self.queue.make_contiguous(),
             &mut self.first,
             &mut self.served,
             &mut self.tiers,
@@ -154,16 +160,17 @@ impl Overlay {
 
     // The flows that the MAP shows by pending grants, in order of SID, and its acknowledge time ([`Book::show`]). These
     // are the flows of the book.
-    pub(crate) fn show(&self, flows: &Flows, progress: u64) -> Result<Shown, AllocError>
-        requires { map live flows.now ≡ self.now.before }
+    pub(crate) fn show(&mut self, flows: &Flows, progress: u64) -> Result<Shown, AllocError>
+        requires { map live flows.now ≡ self.old.before }
         ensures pending { IfOk result (λ s. s.pending.items
-            ≡ map (λ f. f.sid) (filter (is_shown self.now.config.pending self.now.flows) self.now.flows)) }
-        ensures ack { IfOk result (λ s. s.ack ≡ ack_of self.now.config.pending progress self.now.flows) }
+            ≡ map (λ f. f.sid) (filter (is_shown self.old.config.pending self.old.flows) self.old.flows)) }
+        ensures ack { IfOk result (λ s. s.ack ≡ ack_of self.old.config.pending progress self.old.flows) }
+        ensures same { self.new ≡ self.old }
     {
         let most = self.channel.config().pending() as usize;
         show(
-            *self.queue.allocator(),
-            &self.queue,
+            flows.allocator(),
+            self.queue.make_contiguous(),
             &self.served,
             flows,
             most,
@@ -171,18 +178,23 @@ impl Overlay {
         )
     }
 
-    // Puts the flows with the data grants in the place of those before, and the queue of those that still wait in the
-    // place of another; answers whether that is whole (memory may run out).
-    pub(crate) fn put_into(self, flows: &mut Flows, queue: &mut Vec<Waiting>) -> bool
+    // Puts the flows with the data grants in the place of those before, and gives the queue of those that still wait,
+    // if memory does not run out for it.
+    pub(crate) fn put_into(self, flows: &mut Flows) -> Option<VecDeque<Waiting>>
         requires { IsBook self.config flows.old × (map live flows.old ≡ self.before) }
         ensures book { IsBook self.config flows.new × (map live flows.new ≡ self.flows) }
-        ensures order { result ≡ true → IsQueue flows.new queue.new.items }
+        ensures order { IfSome result (λ queue. IsQueue flows.new queue.items) }
     {
+        let mut queue = self.queue;
         if self.is_long {
             take_over(flows, &self.served, &self.tiers, &self.flows);
-            return merge(queue, &self.queue, &self.served).is_ok();
+            if merge(&mut queue, self.served).is_err() {
+                return None;
+            }
+            return Some(queue);
         }
-        take_over(flows, &self.queue, &self.tiers, &self.flows);
-        put_back(queue, &self.queue).is_ok()
+        take_over(flows, queue.make_contiguous(), &self.tiers, &self.flows);
+        drop_idle(&mut queue);
+        Some(queue)
     }
 }

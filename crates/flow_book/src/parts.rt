@@ -127,17 +127,17 @@ fn put_reserved(served: &mut Vec<Waiting>, waiting: Waiting)
 
 // Puts the one at this place in the queue, which is served and whose turn is no earlier than before, among those served:
 // in the queue it wants nothing any more.
-fn put_queued(queue: &mut Vec<Waiting>, served: &mut Vec<Waiting>, index: usize, waiting: Waiting)
-    requires order { (items : List Flow) × IsQueueIn items queue.old.items served.old.items }
-    requires here { (w : Waiting) × (slice_get queue.old.items index ≡ Some w) × (still_waits w ≡ true)
+fn put_queued(queue: &mut [Waiting], served: &mut Vec<Waiting>, index: usize, waiting: Waiting)
+    requires order { (items : List Flow) × IsQueueIn items queue.old served.old.items }
+    requires here { (w : Waiting) × (slice_get queue.old index ≡ Some w) × (still_waits w ≡ true)
         × (w.turn ≤ waiting.turn) }
-    requires room { HasRoom true queue.old.items served.old.items (vec_capacity served.old) }
+    requires room { HasRoom true queue.old served.old.items (vec_capacity served.old) }
     ensures put { (items : List Flow) (w : Waiting)
-        → IsQueueIn items queue.old.items served.old.items → slice_get queue.old.items index ≡ Some w
+        → IsQueueIn items queue.old served.old.items → slice_get queue.old index ≡ Some w
         → still_waits w ≡ true → w.place ≡ waiting.place
-        → IsPutIn items waiting queue.old.items served.old.items queue.new.items served.new.items }
-    ensures passed { (first : ℕ) → NoneWaitsBefore first queue.old.items → NoneWaitsBefore first queue.new.items }
-    ensures room { HasRoom true queue.new.items served.new.items (vec_capacity served.new) }
+        → IsPutIn items waiting queue.old served.old.items queue.new served.new.items }
+    ensures passed { (first : ℕ) → NoneWaitsBefore first queue.old → NoneWaitsBefore first queue.new }
+    ensures room { HasRoom true queue.new served.new.items (vec_capacity served.new) }
 {
     put_reserved(served, waiting);
     queue[index].wants = 0;
@@ -145,21 +145,21 @@ fn put_queued(queue: &mut Vec<Waiting>, served: &mut Vec<Waiting>, index: usize,
 
 // Puts the one that stands there, which is served and whose turn is no earlier than before, among those served.
 fn put_served(
-    queue: &mut Vec<Waiting>,
+    queue: &mut [Waiting],
     served: &mut Vec<Waiting>,
     standing: Standing,
     waiting: Waiting,
 )
-    requires order { (items : List Flow) × IsQueueIn items queue.old.items served.old.items }
-    requires here { (w : Waiting) × (one_at standing queue.old.items served.old.items ≡ Some w)
+    requires order { (items : List Flow) × IsQueueIn items queue.old served.old.items }
+    requires here { (w : Waiting) × (one_at standing queue.old served.old.items ≡ Some w)
         × (still_waits w ≡ true) × (w.turn ≤ waiting.turn) }
-    requires room { HasRoom true queue.old.items served.old.items (vec_capacity served.old) }
+    requires room { HasRoom true queue.old served.old.items (vec_capacity served.old) }
     ensures put { (items : List Flow) (w : Waiting)
-        → IsQueueIn items queue.old.items served.old.items
-        → one_at standing queue.old.items served.old.items ≡ Some w → still_waits w ≡ true → w.place ≡ waiting.place
-        → IsPutIn items waiting queue.old.items served.old.items queue.new.items served.new.items }
-    ensures passed { (first : ℕ) → NoneWaitsBefore first queue.old.items → NoneWaitsBefore first queue.new.items }
-    ensures room { HasRoom true queue.new.items served.new.items (vec_capacity served.new) }
+        → IsQueueIn items queue.old served.old.items
+        → one_at standing queue.old served.old.items ≡ Some w → still_waits w ≡ true → w.place ≡ waiting.place
+        → IsPutIn items waiting queue.old served.old.items queue.new served.new.items }
+    ensures passed { (first : ℕ) → NoneWaitsBefore first queue.old → NoneWaitsBefore first queue.new }
+    ensures room { HasRoom true queue.new served.new.items (vec_capacity served.new) }
 {
     match standing {
         Standing::Queued(index) => put_queued(queue, served, index, waiting),
@@ -200,13 +200,13 @@ fn serve_one(
 }
 
 // Puts the one at this place in a short queue, which is served and whose turn is no earlier than before, back into it.
-fn put_short(queue: &mut Vec<Waiting>, index: usize, waiting: Waiting)
-    requires order { (items : List Flow) × IsShortQueue items queue.old.items }
-    requires here { (w : Waiting) × (slice_get queue.old.items index ≡ Some w) × (still_waits w ≡ true)
+fn put_short(queue: &mut [Waiting], index: usize, waiting: Waiting)
+    requires order { (items : List Flow) × IsShortQueue items queue.old }
+    requires here { (w : Waiting) × (slice_get queue.old index ≡ Some w) × (still_waits w ≡ true)
         × (w.turn ≤ waiting.turn) }
-    ensures { (items : List Flow) (w : Waiting) → IsShortQueue items queue.old.items
-        → slice_get queue.old.items index ≡ Some w → still_waits w ≡ true → w.place ≡ waiting.place
-        → IsPutBack items waiting queue.old.items queue.new.items }
+    ensures { (items : List Flow) (w : Waiting) → IsShortQueue items queue.old
+        → slice_get queue.old index ≡ Some w → still_waits w ≡ true → w.place ≡ waiting.place
+        → IsPutBack items waiting queue.old queue.new }
 {
     put_on(queue, index, waiting);
 }
@@ -214,19 +214,19 @@ fn put_short(queue: &mut Vec<Waiting>, index: usize, waiting: Waiting)
 // Serves the first that may be served where few wait, with these tiers.
 #[inline(always)]
 fn serve_by(
-    queue: &mut Vec<Waiting>,
+    queue: &mut [Waiting],
     tiers: &mut [Tier],
     config: &Checked,
     start: u64,
     room: Room,
 ) -> Option<Served>
     requires room { IsRoom config.now room }
-    requires started { (items : List Flow) × IsShortQueue items queue.old.items
-        × HasStartedIn config.now items tiers.old queue.old.items [] start }
-    ensures next { (items : List Flow) → IsShortQueue items queue.old.items
-        → HasStartedIn config.now items tiers.old queue.old.items [] start
+    requires started { (items : List Flow) × IsShortQueue items queue.old
+        × HasStartedIn config.now items tiers.old queue.old [] start }
+    ensures next { (items : List Flow) → IsShortQueue items queue.old
+        → HasStartedIn config.now items tiers.old queue.old [] start
         → MatchOption result (NoneEligible config.now (map live items) start room.slots)
-        (λ s. IsServedFirst config.now false items tiers.old tiers.new queue.old.items [] queue.new.items []
+        (λ s. IsServedFirst config.now false items tiers.old tiers.new queue.old [] queue.new []
         start room.slots room.bytes s.sid s.bytes) }
     ensures none { result ≡ None → (queue.new ≡ queue.old) × (tiers.new ≡ tiers.old) }
     ensures lawful { IsLawful config.now }
@@ -241,19 +241,19 @@ fn serve_by(
 
 // Serves the first that may be served where few wait. Most often none has a tier: then none is asked for one.
 fn serve_short(
-    queue: &mut Vec<Waiting>,
+    queue: &mut [Waiting],
     tiers: &mut [Tier],
     config: &Checked,
     start: u64,
     room: Room,
 ) -> Option<Served>
     requires room { IsRoom config.now room }
-    requires started { (items : List Flow) × IsShortQueue items queue.old.items
-        × HasStartedIn config.now items tiers.old queue.old.items [] start }
-    ensures next { (items : List Flow) → IsShortQueue items queue.old.items
-        → HasStartedIn config.now items tiers.old queue.old.items [] start
+    requires started { (items : List Flow) × IsShortQueue items queue.old
+        × HasStartedIn config.now items tiers.old queue.old [] start }
+    ensures next { (items : List Flow) → IsShortQueue items queue.old
+        → HasStartedIn config.now items tiers.old queue.old [] start
         → MatchOption result (NoneEligible config.now (map live items) start room.slots)
-        (λ s. IsServedFirst config.now false items tiers.old tiers.new queue.old.items [] queue.new.items []
+        (λ s. IsServedFirst config.now false items tiers.old tiers.new queue.old [] queue.new []
         start room.slots room.bytes s.sid s.bytes) }
     ensures none { result ≡ None → (queue.new ≡ queue.old) × (tiers.new ≡ tiers.old) }
     ensures lawful { IsLawful config.now }
@@ -267,7 +267,7 @@ fn serve_short(
 // Serves the first that may be served where many wait. None of the queue before the first place wants anything.
 #[inline(never)]
 fn serve_long(
-    queue: &mut Vec<Waiting>,
+    queue: &mut [Waiting],
     first: &mut usize,
     served: &mut Vec<Waiting>,
     tiers: &mut [Tier],
@@ -276,18 +276,18 @@ fn serve_long(
     room: Room,
 ) -> Option<Served>
     requires room { IsRoom config.now room }
-    requires passed { NoneWaitsBefore first.old queue.old.items }
-    requires reserved { HasRoom true queue.old.items served.old.items (vec_capacity served.old) }
+    requires passed { NoneWaitsBefore first.old queue.old }
+    requires reserved { HasRoom true queue.old served.old.items (vec_capacity served.old) }
     requires started { (items : List Flow)
-        × HasStartedIn config.now items tiers.old queue.old.items served.old.items start }
-    ensures next { (items : List Flow) → HasStartedIn config.now items tiers.old queue.old.items served.old.items start
+        × HasStartedIn config.now items tiers.old queue.old served.old.items start }
+    ensures next { (items : List Flow) → HasStartedIn config.now items tiers.old queue.old served.old.items start
         → MatchOption result (NoneEligible config.now (map live items) start room.slots)
-        (λ s. IsServedFirst config.now true items tiers.old tiers.new queue.old.items served.old.items
-        queue.new.items served.new.items start room.slots room.bytes s.sid s.bytes) }
+        (λ s. IsServedFirst config.now true items tiers.old tiers.new queue.old served.old.items
+        queue.new served.new.items start room.slots room.bytes s.sid s.bytes) }
     ensures none { result ≡ None
         → (queue.new ≡ queue.old) × (served.new ≡ served.old) × (tiers.new ≡ tiers.old) }
-    ensures passed { NoneWaitsBefore first.new queue.new.items }
-    ensures reserved { HasRoom true queue.new.items served.new.items (vec_capacity served.new) }
+    ensures passed { NoneWaitsBefore first.new queue.new }
+    ensures reserved { HasRoom true queue.new served.new.items (vec_capacity served.new) }
     ensures lawful { IsLawful config.now }
 {
     let standing = first_of(queue, *first, served, tiers, config, start, room)?;
@@ -301,7 +301,7 @@ fn serve_long(
 // Serves the first that may be served, and puts it where it stands from now on. Where many wait none of the queue before
 // the first place wants anything.
 pub(crate) fn serve_first(
-    queue: &mut Vec<Waiting>,
+    queue: &mut [Waiting],
     first: &mut usize,
     served: &mut Vec<Waiting>,
     tiers: &mut [Tier],
@@ -311,19 +311,19 @@ pub(crate) fn serve_first(
     room: Room,
 ) -> Option<Served>
     requires room { IsRoom config.now room }
-    requires passed { is_long ≡ true → NoneWaitsBefore first.old queue.old.items }
-    requires reserved { HasRoom is_long queue.old.items served.old.items (vec_capacity served.old) }
-    requires started { (items : List Flow) × IsOrderIn is_long items queue.old.items served.old.items
-        × HasStartedIn config.now items tiers.old queue.old.items served.old.items start }
-    ensures next { (items : List Flow) → IsOrderIn is_long items queue.old.items served.old.items
-        → HasStartedIn config.now items tiers.old queue.old.items served.old.items start
+    requires passed { is_long ≡ true → NoneWaitsBefore first.old queue.old }
+    requires reserved { HasRoom is_long queue.old served.old.items (vec_capacity served.old) }
+    requires started { (items : List Flow) × IsOrderIn is_long items queue.old served.old.items
+        × HasStartedIn config.now items tiers.old queue.old served.old.items start }
+    ensures next { (items : List Flow) → IsOrderIn is_long items queue.old served.old.items
+        → HasStartedIn config.now items tiers.old queue.old served.old.items start
         → MatchOption result (NoneEligible config.now (map live items) start room.slots)
-        (λ s. IsServedFirst config.now is_long items tiers.old tiers.new queue.old.items served.old.items
-        queue.new.items served.new.items start room.slots room.bytes s.sid s.bytes) }
+        (λ s. IsServedFirst config.now is_long items tiers.old tiers.new queue.old served.old.items
+        queue.new served.new.items start room.slots room.bytes s.sid s.bytes) }
     ensures none { result ≡ None
         → (queue.new ≡ queue.old) × (served.new ≡ served.old) × (tiers.new ≡ tiers.old) }
-    ensures passed { is_long ≡ true → NoneWaitsBefore first.new queue.new.items }
-    ensures reserved { HasRoom is_long queue.new.items served.new.items (vec_capacity served.new) }
+    ensures passed { is_long ≡ true → NoneWaitsBefore first.new queue.new }
+    ensures reserved { HasRoom is_long queue.new served.new.items (vec_capacity served.new) }
     ensures lawful { IsLawful config.now }
 {
     if is_long {

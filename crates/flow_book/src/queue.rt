@@ -19,6 +19,8 @@ use crate::flows::Flows;
 use crate::tiers::NO_TIER;
 use crate::waiting::Waiting;
 use std::alloc::{AllocError, Global};
+use std::collections::VecDeque;
+use std::mem;
 
 // The place in the queue of the first of a later turn, or its end.
 pub(crate) fn place_after(queue: &[Waiting], turn: u128) -> usize
@@ -30,8 +32,8 @@ pub(crate) fn place_after(queue: &[Waiting], turn: u128) -> usize
 }
 
 // The place in the queue of the flow at this place among the flows.
-fn index_of(queue: &[Waiting], place: usize) -> Option<usize>
-    ensures { result ≡ position (λ w. w.place == place) queue.now }
+fn index_of(queue: &VecDeque<Waiting>, place: usize) -> Option<usize>
+    ensures { result ≡ position (λ w. w.place == place) queue.now.items }
 {
     queue
         .iter()
@@ -39,22 +41,22 @@ fn index_of(queue: &[Waiting], place: usize) -> Option<usize>
 }
 
 // Puts one that waits into the queue, before the first of a later turn.
-pub(crate) fn put_in_turn(queue: &mut Vec<Waiting>, waiting: Waiting) -> Result<(), AllocError>
+pub(crate) fn put_in_turn(queue: &mut VecDeque<Waiting>, waiting: Waiting) -> Result<(), AllocError>
     requires { AscendBy (λ w. w.turn) queue.old.items }
     ensures put { OnOk result (queue.new.items ≡ put_in (λ w. w.turn) waiting queue.old.items) }
     ensures same { OnErr result (queue.new.items ≡ queue.old.items) }
 {
-    let index = place_after(queue, waiting.turn);
+    let index = place_after(queue.make_contiguous(), waiting.turn);
     queue.insert(index, waiting)?;
     Ok(())
 }
 
 // The queue of all flows that wait.
-pub(crate) fn queue_of(alloc: Global, flows: &Flows) -> Result<Vec<Waiting>, AllocError>
+pub(crate) fn queue_of(alloc: Global, flows: &Flows) -> Result<VecDeque<Waiting>, AllocError>
     requires { (c : Config) × IsBook c flows.now }
     ensures { IfOk result (λ queue. IsQueue flows.now queue.items) }
 {
-    let mut queue = Vec::with_capacity(alloc, flows.len())?;
+    let mut queue = VecDeque::with_capacity(alloc, flows.len())?;
     for place in 0..flows.len() {
         let waiting = waiting_of(flows.at(place), place);
         if waiting.wants > 0 {
@@ -135,7 +137,7 @@ pub(crate) fn put_on(queue: &mut [Waiting], index: usize, waiting: Waiting)
 }
 
 // Moves the one of this place to its turn in the queue: most often it comes later than before, and moves back.
-fn move_to_turn(queue: &mut Vec<Waiting>, waiting: Waiting) -> Result<(), AllocError>
+fn move_to_turn(queue: &mut VecDeque<Waiting>, waiting: Waiting) -> Result<(), AllocError>
     requires { (items : List Flow) × IsQueue items queue.old.items }
     ensures { OnOk result ((items : List Flow) → IsQueue items queue.old.items
         → IsMoved items waiting queue.new.items) }
@@ -146,7 +148,7 @@ fn move_to_turn(queue: &mut Vec<Waiting>, waiting: Waiting) -> Result<(), AllocE
         return Ok(());
     };
     if queue[index].turn <= waiting.turn {
-        move_back(queue, index, waiting);
+        move_back(queue.make_contiguous(), index, waiting);
         return Ok(());
     }
     take_out(queue, place);
@@ -155,7 +157,7 @@ fn move_to_turn(queue: &mut Vec<Waiting>, waiting: Waiting) -> Result<(), AllocE
 }
 
 // Moves the flow at this place of a book, which has changed, to its turn in the queue, or takes it out.
-fn put_again(queue: &mut Vec<Waiting>, flows: &Flows, place: usize) -> Result<(), AllocError>
+fn put_again(queue: &mut VecDeque<Waiting>, flows: &Flows, place: usize) -> Result<(), AllocError>
     requires book { (c : Config) × IsBook c flows.now }
     requires within { place < length flows.now }
     requires queue { (before : List Flow)
@@ -194,7 +196,7 @@ pub(crate) fn waiting_of(flow: &Flow, place: usize) -> Waiting
 }
 
 // Takes the flow at this place out of the queue, where it is in it.
-fn take_out(queue: &mut Vec<Waiting>, place: usize)
+fn take_out(queue: &mut VecDeque<Waiting>, place: usize)
     ensures { (items : List Flow) → IsQueue items queue.old.items
         → IsQueueAmong items (λ other. other ≢ place) queue.new.items }
 {
@@ -216,7 +218,7 @@ fn move_up(queue: &mut [Waiting], place: usize)
 }
 
 // Makes way in a queue that is known for a flow that is put in at this place and waits for nothing.
-pub(crate) fn make_way(queue: &mut Vec<Waiting>, is_queued: bool, place: usize)
+pub(crate) fn make_way(queue: &mut VecDeque<Waiting>, is_queued: bool, place: usize)
     requires { is_queued ≡ true → (items : List Flow)
         × IsQueue items queue.old.items × (length items + 1 < 2 ^ 32) }
     ensures { (items : List Flow) (f : Flow) → is_queued ≡ true → IsQueue items queue.old.items
@@ -224,7 +226,7 @@ pub(crate) fn make_way(queue: &mut Vec<Waiting>, is_queued: bool, place: usize)
         → IsQueue (insert items place f) queue.new.items }
 {
     if is_queued {
-        move_up(queue, place);
+        move_up(queue.make_contiguous(), place);
     }
 }
 
@@ -240,32 +242,58 @@ fn move_down(queue: &mut [Waiting], place: usize)
 }
 
 // Takes the flow at this place, which leaves the book, out of the queue.
-pub(crate) fn leave(queue: &mut Vec<Waiting>, place: usize)
+pub(crate) fn leave(queue: &mut VecDeque<Waiting>, place: usize)
     ensures { (items : List Flow) → place < length items → IsQueue items queue.old.items
         → IsQueue (remove items place) queue.new.items }
 {
     take_out(queue, place);
-    move_down(queue, place);
+    move_down(queue.make_contiguous(), place);
 }
 
-// Makes room in the queue for one more than so many flows.
-pub(crate) fn make_room(queue: &mut Vec<Waiting>, flows: usize) -> Result<(), AllocError>
+// Makes room in the queue for one more than so many flows, and as much beside it: then those that go behind it seldom
+// need those before them to move.
+pub(crate) fn make_room(queue: &mut VecDeque<Waiting>, flows: usize) -> Result<(), AllocError>
     ensures { queue.new.items ≡ queue.old.items }
 {
-    queue.reserve(flows.saturating_sub(queue.len()).saturating_add(1))
+    let most = flows.saturating_add(1).saturating_mul(2);
+    queue.reserve(most.saturating_sub(queue.len()))
 }
 
 // A copy of the queue.
-pub(crate) fn copy_of(queue: &Vec<Waiting>) -> Result<Vec<Waiting>, AllocError>
+pub(crate) fn copy_of(
+    alloc: Global,
+    queue: &VecDeque<Waiting>,
+) -> Result<VecDeque<Waiting>, AllocError>
     ensures { IfOk result (λ copy. copy.items ≡ queue.now.items) }
 {
-    let mut copy = Vec::with_capacity(*queue.allocator(), queue.len())?;
-    copy.extend_from_slice(queue)?;
-    Ok(copy)
+    let (front, back) = queue.as_slices();
+    let mut copy = Vec::with_capacity(alloc, queue.len())?;
+    copy.extend_from_slice(front)?;
+    copy.extend_from_slice(back)?;
+    Ok(VecDeque::from_vec(copy))
+}
+
+// Takes a queue that is known from its book, which has none then, or makes it.
+pub(crate) fn take_or_make(
+    queue: &mut VecDeque<Waiting>,
+    is_queued: &mut bool,
+    flows: &Flows,
+) -> Result<VecDeque<Waiting>, AllocError>
+    requires book { (c : Config) × IsBook c flows.now }
+    requires queue { is_queued.old ≡ true → IsQueue flows.now queue.old.items }
+    ensures made { IfOk result (λ made. IsQueue flows.now made.items) }
+    ensures left { is_queued.new ≡ true → IsQueue flows.now queue.new.items }
+{
+    let alloc = flows.allocator();
+    if *is_queued {
+        *is_queued = false;
+        return Ok(mem::replace(queue, VecDeque::new(alloc)));
+    }
+    queue_of(alloc, flows)
 }
 
 // Keeps a queue that is known where the flow at this place of a book has changed, and answers whether it still is.
-pub(crate) fn follow(queue: &mut Vec<Waiting>, is_queued: bool, flows: &Flows, place: usize) -> bool
+pub(crate) fn follow(queue: &mut VecDeque<Waiting>, is_queued: bool, flows: &Flows, place: usize) -> bool
     requires book { (c : Config) × IsBook c flows.now }
     requires within { place < length flows.now }
     requires queue { is_queued ≡ true → (before : List Flow)

@@ -1,19 +1,19 @@
 //! A book takes in the data grants of a MAP.
 
-ghost use Rattle.std.specs.Prelude.{◌≡◌, ◌≤◌, ◌++◌, ◌∷◌, [], List, map, filter, drop, IfOk, OnOk};
-ghost use Rattle.std.specs.List.{AllByRecursion};
+ghost use Rattle.std.specs.Prelude.{◌≡◌, ◌≤◌, ◌++◌, List, map, filter, take, drop, length, OnOk};
 ghost use Rattle.minislots.specs.declared.config.Config.{Config};
 ghost use Rattle.flow_book.specs.declared.flow.Flow.{Flow};
-ghost use Rattle.flow_book.specs.declared.waiting.Waiting.{Waiting};
 ghost use Rattle.flow_book.specs.Entry.{live, IsBook};
-ghost use Rattle.flow_book.specs.Queue.{IsIn, IsQueue, IsQueueAmong, IsQueueIn, still_waits};
-ghost use Rattle.flow_book.specs.Taking.{CanBeTaken, IsTaken, AreMerged, AreApart};
+ghost use Rattle.flow_book.specs.Queue.{IsQueue, IsQueueIn, still_waits};
+ghost use Rattle.flow_book.specs.Taking.{CanBeTaken, IsTaken};
 
 use crate::flow_list::FlowList;
 use crate::flows::Flows;
+use crate::gap::put_all;
 use crate::tiers::Tier;
 use crate::waiting::Waiting;
 use std::alloc::AllocError;
+use std::collections::VecDeque;
 
 // Gives each flow that a MAP served the data grants that it has after it, and what is kept of it.
 pub(crate) fn take_over(flows: &mut Flows, served: &[Waiting], tiers: &[Tier], after: &FlowList)
@@ -34,68 +34,63 @@ pub(crate) fn take_over(flows: &mut Flows, served: &[Waiting], tiers: &[Tier], a
     }
 }
 
-// Puts those of a queue that still wait in the place of another, in the same order.
-pub(crate) fn put_back(to: &mut Vec<Waiting>, from: &[Waiting]) -> Result<(), AllocError>
-    ensures { OnOk result (to.new.items ≡ filter still_waits from.now) }
+// The place behind the last of a queue that waits no more, 0 where all wait.
+fn behind_last_idle(queue: &[Waiting]) -> usize
+    ensures within { result ≤ length queue.now }
+    ensures waiting { filter still_waits (drop result queue.now) ≡ drop result queue.now }
 {
-    to.clear();
-    to.extend_from_slice(from)?;
-    to.retain(|waiting| waiting.wants > 0);
-    Ok(())
+    let mut at = queue.len();
+    while at > 0 && queue[at - 1].wants > 0 {
+        at -= 1;
+    }
+    at
+}
+
+// Moves those of a queue before this place that still wait up to it, in their order, and answers where the first of them
+// stands then.
+fn close_up(queue: &mut [Waiting], upto: usize) -> usize
+    requires { upto ≤ length queue.old }
+    ensures closed { drop result queue.new ≡ filter still_waits (take upto queue.old) ++ drop upto queue.old }
+    ensures within { result ≤ upto }
+    ensures len { length queue.new ≡ length queue.old }
+{
+    let mut first = upto;
+    for index in (0..upto).rev() {
+        if queue[index].wants > 0 {
+            first -= 1;
+            queue[first] = queue[index];
+        }
+    }
+    first
+}
+
+// Takes so many out of a queue at its front.
+fn drop_front(queue: &mut VecDeque<Waiting>, count: usize)
+    ensures { queue.new.items ≡ drop count queue.old.items }
+{
+    for _ in 0..count {
+        let _ = queue.pop_front();
+    }
+}
+
+// Takes those out of a queue that wait no more.
+pub(crate) fn drop_idle(queue: &mut VecDeque<Waiting>)
+    ensures { queue.new.items ≡ filter still_waits queue.old.items }
+{
+    let upto = behind_last_idle(queue.make_contiguous());
+    let first = close_up(queue.make_contiguous(), upto);
+    drop_front(queue, first);
 }
 
 // Makes a queue of those that still wait in the two parts, by their turns.
-pub(crate) fn merge(
-    queue: &mut Vec<Waiting>,
-    from: &[Waiting],
-    served: &[Waiting],
-) -> Result<(), AllocError>
+pub(crate) fn merge(queue: &mut VecDeque<Waiting>, served: Vec<Waiting>) -> Result<(), AllocError>
+    requires { (c : Config) × (items : List Flow) × IsBook c items
+        × IsQueueIn items queue.old.items served.items }
     ensures { OnOk result ((c : Config) (items : List Flow) → IsBook c items
-        → IsQueueIn items from.now served.now → IsQueue items queue.new.items) }
+        → IsQueueIn items queue.old.items served.items → IsQueue items queue.new.items) }
 {
-    queue.clear();
-    let mut at = 0;
-    for waiting in from {
-        if waiting.wants > 0 {
-            at = put_before(queue, served, at, waiting.turn)?;
-            queue.push(*waiting)?;
-        }
-    }
-    put_before(queue, served, at, u128::MAX)?;
-    Ok(())
-}
-
-// Puts behind a queue those served, from this place on, that still wait and come before a turn, and answers where it
-// stopped.
-fn put_before(
-    queue: &mut Vec<Waiting>,
-    served: &[Waiting],
-    first: usize,
-    turn: u128,
-) -> Result<usize, AllocError>
-    ensures put { IfOk result (λ at. (c : Config) (items : List Flow) (done left : List Waiting) → IsBook c items
-        → IsQueueAmong items (λ place. IsIn place served.now) served.now
-        → AreApart done served.now → AllByRecursion (λ w. turn ≤ w.turn) left
-        → AreMerged items done left served.now first queue.old.items
-        → AreMerged items done left served.now at queue.new.items) }
-    ensures behind { IfOk result (λ at. (items : List Flow)
-        → IsQueueAmong items (λ place. IsIn place served.now) served.now
-        → AllByRecursion (λ w. turn ≤ w.turn) (drop at served.now)) }
-{
-    let mut at = first;
-    while at < served.len() && served[at].turn < turn {
-        put_behind(queue, &served[at])?;
-        at += 1;
-    }
-    Ok(at)
-}
-
-// Puts one behind a queue where it still waits.
-fn put_behind(queue: &mut Vec<Waiting>, one: &Waiting) -> Result<(), AllocError>
-    ensures { OnOk result (queue.new.items ≡ queue.old.items ++ filter still_waits (one.now ∷ [])) }
-{
-    if one.wants > 0 {
-        queue.push(*one)?;
-    }
-    Ok(())
+    let mut served = served;
+    served.retain(|waiting| waiting.wants > 0);
+    drop_idle(queue);
+    put_all(queue, &served)
 }

@@ -94,12 +94,12 @@ fn tier_at(flows: &Flows, place: u32) -> Tier
 // The tiers of those that wait, by whose places they are numbered from now on.
 pub(crate) fn tiers_of(
     alloc: Global,
-    queue: &mut Vec<Waiting>,
+    queue: &mut [Waiting],
     flows: &Flows,
 ) -> Result<Vec<Tier>, AllocError>
-    requires { IsQueue flows.now queue.old.items }
-    ensures queue { OnOk result (IsQueue flows.now queue.new.items) }
-    ensures tiers { IfOk result (λ tiers. AllByRecursion (HasTier flows.now tiers.items) queue.new.items) }
+    requires { IsQueue flows.now queue.old }
+    ensures queue { OnOk result (IsQueue flows.now queue.new) }
+    ensures tiers { IfOk result (λ tiers. AllByRecursion (HasTier flows.now tiers.items) queue.new) }
 {
     let mut tiers = Vec::new(alloc);
     for index in 0..queue.len() {

@@ -4,10 +4,16 @@ use Rattle.std.specs.List.{AllByRecursion, slice_get}
 use Rattle.minislots.specs.declared.config.Config.{Config}
 use Rattle.minislots.specs.Config.{IsLawful}
 use Rattle.flow_book.specs.Flows.{LiveFlow}
+use Rattle.flow_book.specs.Book.{BookView}
+use Rattle.flow_book.specs.Overlay.{OverlayView}
 use Rattle.flow_book.specs.Choice.{HasStartedBy}
 use Rattle.map_build.specs.declared.draft.Draft.{Draft}
 use Rattle.map_build.specs.declared.TheConstants.{MAX_WAITING}
 use Rattle.map_build.specs.FrameMap.{quiet_element}
+
+-- the overlay is of the book, with no data grant yet
+abbrev pub IsOverlayOf : BookView → OverlayView → Type 0
+IsOverlayOf book overlay = overlay ≡ record { config = book.config; before = book.flows; flows = book.flows }
 
 -- the draft has the flows of the frame that starts there, and nothing stands in the frame yet
 pub record IsBegun (c : Config) (flows : List LiveFlow) (start : ℕ) (d : Draft) : Type 0 where

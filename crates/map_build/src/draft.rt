@@ -50,13 +50,14 @@ pub(crate) struct Draft {
 impl Draft {
     // Nothing yet of the frame that starts there.
     #[inline(always)]
-    fn begin(alloc: Global, book: &Book, start: u64) -> Result<Draft, AllocError>
-        requires started { AllByRecursion (HasStartedBy start) book.now.flows }
+    fn begin(alloc: Global, overlay: Overlay, start: u64) -> Result<Draft, AllocError>
+        requires none { overlay.before ≡ overlay.flows }
+        requires started { AllByRecursion (HasStartedBy start) overlay.flows }
         requires bounded { start ≤ 2 ^ 61 }
-        ensures { IfOk result (IsBegun book.now.config book.now.flows start) }
+        ensures { IfOk result (IsBegun overlay.config overlay.flows start) }
     {
         Ok(Draft {
-            overlay: book.overlay()?,
+            overlay,
             start,
             elements: Vec::with_capacity(alloc, FEW_ELEMENTS)?,
             bytes: Vec::with_capacity(alloc, usize::from(MAX_ELEMENTS))?,
@@ -67,12 +68,13 @@ impl Draft {
     }
 
     /// The idle of a frame in which nobody sends, alone.
-    pub(crate) fn quiet(alloc: Global, book: &Book, start: u64) -> Result<Draft, AllocError>
-        requires started { AllByRecursion (HasStartedBy start) book.now.flows }
+    pub(crate) fn quiet(alloc: Global, overlay: Overlay, start: u64) -> Result<Draft, AllocError>
+        requires none { overlay.before ≡ overlay.flows }
+        requires started { AllByRecursion (HasStartedBy start) overlay.flows }
         requires bounded { start ≤ 2 ^ 61 }
-        ensures { IfOk result (IsQuiet book.now.config book.now.flows start) }
+        ensures { IfOk result (IsQuiet overlay.config overlay.flows start) }
     {
-        let mut draft = Draft::begin(alloc, book, start)?;
+        let mut draft = Draft::begin(alloc, overlay, start)?;
         let iuc = long_iuc(draft.overlay.config());
         let frame = draft.overlay.config().frame() as u16;
         draft.put_slots(NOBODY, iuc, frame, 0)?;
@@ -80,14 +82,15 @@ impl Draft {
     }
 
     /// The request region alone.
-    pub(crate) fn open(alloc: Global, book: &Book, start: u64) -> Result<Draft, AllocError>
-        requires started { AllByRecursion (HasStartedBy start) book.now.flows }
+    pub(crate) fn open(alloc: Global, overlay: Overlay, start: u64) -> Result<Draft, AllocError>
+        requires none { overlay.before ≡ overlay.flows }
+        requires started { AllByRecursion (HasStartedBy start) overlay.flows }
         requires bounded { start ≤ 2 ^ 61 }
         ensures { IfOk result (λ d. (spots : List Spot) (waiting : List Opportunity)
-            → AreInFrame book.now.config spots
-            → HasPlan book.now.config (demand_at book.now.flows spots waiting start) [] d) }
+            → AreInFrame overlay.config spots
+            → HasPlan overlay.config (demand_at overlay.flows spots waiting start) [] d) }
     {
-        let mut draft = Draft::begin(alloc, book, start)?;
+        let mut draft = Draft::begin(alloc, overlay, start)?;
         let requests = draft.overlay.config().req_slots() as u16;
         draft.put_slots(BROADCAST, iuc::REQUEST, requests, 0)?;
         Ok(draft)
@@ -133,7 +136,7 @@ impl Draft {
         ensures ack { IfOk result (λ ack. ack
             ≡ ack_of self.old.overlay.config.pending progress self.old.overlay.flows) }
     {
-        let shown = book.show(&self.overlay, progress)?;
+        let shown = book.show(&mut self.overlay, progress)?;
         self.put(NOBODY, iuc::NULL, 0)?;
         self.put_pending(&shown.pending)?;
         Ok(shown.ack)

@@ -9,6 +9,7 @@ ghost use Rattle.sched_calls.specs.declared.frame_map.FrameMap.{FrameMap};
 ghost use Rattle.sched_calls.specs.Header.{header_of};
 ghost use Rattle.map_build.specs.Opportunities.{MayWait, HaveElementSids, MeetsFirst};
 ghost use Rattle.map_build.specs.Plan.{Demand, demand_at};
+ghost use Rattle.map_build.specs.Begun.{IsOverlayOf};
 ghost use Rattle.map_build.specs.FrameMap.{IsLawfulMap, IsLawfulFrame};
 ghost use Rattle.map_build.specs.Spots.{AreInFrame, AreOfChannel, HaveFlowSids, ArePeriodicOf};
 
@@ -42,12 +43,14 @@ pub struct PlannedFrame {
 fn plan_around(
     alloc: Global,
     book: &Book,
+    overlay: Overlay,
     spots: &[Spot],
     waiting: &[Opportunity],
     header: Header,
     start: u64,
     progress: u64,
 ) -> Result<PlannedFrame, AllocError>
+    requires overlay { IsOverlayOf book.now overlay }
     requires placed { AreInFrame book.now.config spots.now }
     requires waiting { MayWait waiting.now }
     requires started { AllByRecursion (HasStartedBy start) book.now.flows }
@@ -61,12 +64,58 @@ fn plan_around(
         → HaveElementSids waiting.now → IfOk result (λ p. IsWellFormed p.map.wire) }
     ensures config { IfOk result (λ p. p.overlay.config ≡ book.now.config) }
 {
-    let mut draft = Draft::open(alloc, book, start)?;
+    let mut draft = Draft::open(alloc, overlay, start)?;
     draft.fill(spots, waiting)?;
     let ack = draft.put_end(book, progress)?;
     let met = draft.met;
     let (map, overlay) = draft.into_map(header, ack);
     Ok(PlannedFrame { map, overlay, met })
+}
+
+// The lawful MAP of a frame, and what it changes, by an overlay of the book ([`plan_with_book`]).
+fn plan_over(
+    alloc: Global,
+    book: &Book,
+    overlay: Overlay,
+    table: &Table,
+    frame: u64,
+    progress: u64,
+    header: Header,
+    waiting: &[Opportunity],
+) -> Result<PlannedFrame, AllocError>
+    requires overlay { IsOverlayOf book.now overlay }
+    requires config { table.now.config ≡ book.now.config }
+    requires periodic { ArePeriodicOf book.now.flows table.now.placed }
+    requires started { AllByRecursion (HasStartedBy (frame * book.now.config.frame))
+        book.now.flows }
+    requires bounded { frame * book.now.config.frame ≤ 2 ^ 61 }
+    requires waiting { MayWait waiting.now }
+
+    ensures lawful { IfOk result (λ p. IsLawfulFrame book.now.config
+        (demand_at book.now.flows (due_in book.now.config frame table.now.placed) waiting.now
+        (frame * book.now.config.frame)) header progress p) }
+    ensures only { IfOk result (λ p. (n : FrameMap) → IsLawfulMap book.now.config
+        (demand_at book.now.flows (due_in book.now.config frame table.now.placed) waiting.now
+        (frame * book.now.config.frame)) header progress n → n ≡ p.map) }
+    ensures first { IfOk result (λ p. MeetsFirst book.now.config
+        (due_in book.now.config frame table.now.placed) waiting.now p.met) }
+    ensures encodable { AreOfChannel book.now.flows → HaveElementSids waiting.now
+        → IfOk result (λ p. IsWellFormed p.map.wire) }
+    ensures config { IfOk result (λ p. p.overlay.config ≡ book.now.config) }
+{
+    let start = frame * u64::from(book.config().frame());
+    let mut spots = [NO_SPOT; MAX_SPOTS];
+    let count = table.in_frame(frame, &mut spots);
+    plan_around(
+        alloc,
+        book,
+        overlay,
+        &spots[..count],
+        waiting,
+        header,
+        start,
+        progress,
+    )
 }
 
 /// The lawful MAP of frame number `frame`, which starts at `frame` times the frame's minislots, with
@@ -95,7 +144,8 @@ pub fn plan_frame(
     ensures encodable { AreOfChannel book.now.flows → IfOk result (λ m. IsWellFormed m.wire) }
 {
     let header = Header::of(book.config());
-    let planned = plan_with_book(alloc, book, table, frame, progress, header, &[])?;
+    let overlay = book.overlay()?;
+    let planned = plan_over(alloc, book, overlay, table, frame, progress, header, &[])?;
     let PlannedFrame { map, .. } = planned;
     Ok(map)
 }
@@ -105,42 +155,35 @@ pub fn plan_frame(
 /// most.
 pub fn plan_with_book(
     alloc: Global,
-    book: &Book,
+    book: &mut Book,
     table: &Table,
     frame: u64,
     progress: u64,
     header: Header,
     waiting: &[Opportunity],
 ) -> Result<PlannedFrame, AllocError>
-    requires config { table.now.config ≡ book.now.config }
-    requires periodic { ArePeriodicOf book.now.flows table.now.placed }
-    requires started { AllByRecursion (HasStartedBy (frame * book.now.config.frame))
-        book.now.flows }
-    requires bounded { frame * book.now.config.frame ≤ 2 ^ 61 }
+    requires config { table.now.config ≡ book.old.config }
+    requires periodic { ArePeriodicOf book.old.flows table.now.placed }
+    requires started { AllByRecursion (HasStartedBy (frame * book.old.config.frame))
+        book.old.flows }
+    requires bounded { frame * book.old.config.frame ≤ 2 ^ 61 }
     requires waiting { MayWait waiting.now }
 
-    ensures lawful { IfOk result (λ p. IsLawfulFrame book.now.config
-        (demand_at book.now.flows (due_in book.now.config frame table.now.placed) waiting.now
-        (frame * book.now.config.frame)) header progress p) }
-    ensures only { IfOk result (λ p. (n : FrameMap) → IsLawfulMap book.now.config
-        (demand_at book.now.flows (due_in book.now.config frame table.now.placed) waiting.now
-        (frame * book.now.config.frame)) header progress n → n ≡ p.map) }
-    ensures first { IfOk result (λ p. MeetsFirst book.now.config
-        (due_in book.now.config frame table.now.placed) waiting.now p.met) }
-    ensures encodable { AreOfChannel book.now.flows → HaveElementSids waiting.now
+    ensures lawful { IfOk result (λ p. IsLawfulFrame book.old.config
+        (demand_at book.old.flows (due_in book.old.config frame table.now.placed) waiting.now
+        (frame * book.old.config.frame)) header progress p) }
+    ensures only { IfOk result (λ p. (n : FrameMap) → IsLawfulMap book.old.config
+        (demand_at book.old.flows (due_in book.old.config frame table.now.placed) waiting.now
+        (frame * book.old.config.frame)) header progress n → n ≡ p.map) }
+    ensures first { IfOk result (λ p. MeetsFirst book.old.config
+        (due_in book.old.config frame table.now.placed) waiting.now p.met) }
+    ensures encodable { AreOfChannel book.old.flows → HaveElementSids waiting.now
         → IfOk result (λ p. IsWellFormed p.map.wire) }
-    ensures config { IfOk result (λ p. p.overlay.config ≡ book.now.config) }
+    ensures config { IfOk result (λ p. p.overlay.config ≡ book.old.config) }
+    ensures same { book.new ≡ book.old }
 {
-    let start = frame * u64::from(book.config().frame());
-    let mut spots = [NO_SPOT; MAX_SPOTS];
-    let count = table.in_frame(frame, &mut spots);
-    plan_around(
-        alloc,
-        book,
-        &spots[..count],
-        waiting,
-        header,
-        start,
-        progress,
+    let overlay = book.lend()?;
+    plan_over(
+        alloc, book, overlay, table, frame, progress, header, waiting,
     )
 }

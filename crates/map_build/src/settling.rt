@@ -22,23 +22,25 @@ use std::alloc::{AllocError, Global};
 /// they heard, and the book's grants start before the frame.
 pub fn plan_settling(
     alloc: Global,
-    book: &Book,
+    book: &mut Book,
     header: Header,
     start: u64,
     progress: u64,
 ) -> Result<PlannedFrame, AllocError>
-    requires started { AllByRecursion (HasStartedBy start) book.now.flows }
+    requires started { AllByRecursion (HasStartedBy start) book.old.flows }
     requires bounded { start ≤ 2 ^ 61 }
 
     ensures lawful { IfOk result (λ p. (spots : List Spot) (waiting : List Opportunity)
-        → IsLawfulFrame book.now.config (settling (demand_at book.now.flows spots waiting start)) header progress p) }
+        → IsLawfulFrame book.old.config (settling (demand_at book.old.flows spots waiting start)) header progress p) }
     ensures only { IfOk result (λ p. (spots : List Spot) (waiting : List Opportunity) (n : FrameMap)
-        → IsLawfulMap book.now.config (settling (demand_at book.now.flows spots waiting start)) header progress n
+        → IsLawfulMap book.old.config (settling (demand_at book.old.flows spots waiting start)) header progress n
         → n ≡ p.map) }
-    ensures encodable { AreOfChannel book.now.flows → IfOk result (λ p. IsWellFormed p.map.wire) }
-    ensures config { IfOk result (λ p. p.overlay.config ≡ book.now.config) }
+    ensures encodable { AreOfChannel book.old.flows → IfOk result (λ p. IsWellFormed p.map.wire) }
+    ensures config { IfOk result (λ p. p.overlay.config ≡ book.old.config) }
+    ensures same { book.new ≡ book.old }
 {
-    let mut draft = Draft::quiet(alloc, book, start)?;
+    let overlay = book.lend()?;
+    let mut draft = Draft::quiet(alloc, overlay, start)?;
     let ack = draft.put_end(book, progress)?;
     let met = draft.met;
     let (map, overlay) = draft.into_map(header, ack);

@@ -1,5 +1,5 @@
 -- It goes to those served, and wants nothing in the queue any more.
-use Rattle.std.proofs.Common.{refl, ap, length, arith}
+use Rattle.std.proofs.Common.{refl, ap, get_or, length, arith}
 use Rattle.flow_book.specs.declared.waiting.Waiting.{Waiting}
 use Rattle.flow_book.proofs.InParts.{put-queued, none-set, fewer-wait, one-waits}
 use Rattle.sched_calls.proofs.Insertion.{length-put_in}
@@ -11,7 +11,7 @@ put_reserved-requires-clause-room c =
     omega (
       arith,
       c.requires.room refl,
-      one-waits c.args.queue.now.items c.args.index here.0 here.1 here.2,
+      one-waits c.args.queue.now c.args.index here.0 here.1 here.2,
     )
 
 pub put_reserved-requires-clause-ascending : goal.put_reserved-requires-clause-ascending
@@ -19,13 +19,13 @@ put_reserved-requires-clause-ascending c = c.requires.order.1.served_ones.ascend
 
 pub returns-clause-put : goal.returns-clause-put
 returns-clause-put c = λ items w order here still same.
-    put-queued items c.args.queue.now.items c.args.served.now.items order c.args.index w c.args.waiting same
-    (record c.index_mut.result.now { wants = 0 }) c.put_reserved.new.served.items here still refl
+    put-queued items c.args.queue.now c.args.served.now.items order c.args.index w c.args.waiting same
+    (record (get_or c.args.queue.now c.args.index c.index-queue-index.result) { wants = 0 }) c.put_reserved.new.served.items here still refl
     c.put_reserved.ensures.put
 
 pub returns-clause-passed : goal.returns-clause-passed
 returns-clause-passed c = λ first none.
-    none-set first c.args.queue.now.items c.args.index (record c.index_mut.result.now { wants = 0 }) refl none
+    none-set first c.args.queue.now c.args.index (record (get_or c.args.queue.now c.args.index c.index-queue-index.result) { wants = 0 }) refl none
 
 pub returns-clause-room : goal.returns-clause-room
 returns-clause-room c = λ yes'.
@@ -35,7 +35,7 @@ returns-clause-room c = λ yes'.
       c.requires.room yes',
       ap length c.put_reserved.ensures.put,
       length-put_in (λ (v : Waiting). v.turn) c.args.waiting c.args.served.now.items,
-      fewer-wait c.args.queue.now.items c.args.index here.0 (record c.index_mut.result.now { wants = 0 }) here.1 here.2
+      fewer-wait c.args.queue.now c.args.index here.0 (record (get_or c.args.queue.now c.args.index c.index-queue-index.result) { wants = 0 }) here.1 here.2
           refl,
       c.put_reserved.ensures.capacity,
     )

@@ -11,7 +11,7 @@ use Rattle.flow_book.proofs.parts.put_served.Goals as goal
 
 pub put_queued-requires-clause-here : goal.put_queued-requires-clause-here
 put_queued-requires-clause-here c =
-    let here : slice_get c.args.queue.now.items c.in-Queued.index ≡ Some c.requires.here.0 =
+    let here : slice_get c.args.queue.now c.in-Queued.index ≡ Some c.requires.here.0 =
     rw c.in-Queued.is at c.requires.here.1 in
     (c.requires.here.0, here, c.requires.here.2, c.requires.here.3)
 
@@ -35,7 +35,7 @@ move_back-requires-clause-before c = λ k d early.
 
 pub returns-in-Queued-clause-put : goal.returns-in-Queued-clause-put
 returns-in-Queued-clause-put c = λ items w order here still same.
-    let at : slice_get c.args.queue.now.items c.in-Queued.index ≡ Some w = rw c.in-Queued.is at here in
+    let at : slice_get c.args.queue.now c.in-Queued.index ≡ Some w = rw c.in-Queued.is at here in
     c.put_queued.ensures.put items w order at still same
 
 pub returns-in-Served-clause-put : goal.returns-in-Served-clause-put
@@ -47,7 +47,7 @@ returns-in-Served-clause-put c = λ items w order here still same.
     rw c.deref_mut.ensures.value at c.move_back.ensures.moved in
     let long : length new ≡ served.len =
     omega (arith, c.move_back.ensures.len, ap length c.deref_mut.ensures.value, served.ok.0) in
-    put-again items c.args.queue.now.items served.items order c.in-Served.index w c.args.waiting same _ at
+    put-again items c.args.queue.now served.items order c.in-Served.index w c.args.waiting same _ at
     (take_at new _ served.len long ∙ moved)
 
 pub returns-in-Served-clause-room : goal.returns-in-Served-clause-room
@@ -56,5 +56,5 @@ returns-in-Served-clause-room c =
     let new = c.move_back.new.queue in
     let long : length new ≡ served.len =
     omega (arith, c.move_back.ensures.len, ap length c.deref_mut.ensures.value, served.ok.0) in
-    subst (λ ws. HasRoom true c.args.queue.now.items ws served.cap) (sym (take_at new _ served.len long))
+    subst (λ ws. HasRoom true c.args.queue.now ws served.cap) (sym (take_at new _ served.len long))
     (λ yes'. omega (arith, c.requires.room yes', long, served.ok.0))

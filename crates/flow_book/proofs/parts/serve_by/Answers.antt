@@ -15,29 +15,29 @@ read-here queue i w lt is = slice_get-get_or queue i w lt ∙ ap Some (sym is)
 pub returns-in_err-first-clause-next : goal.returns-in_err-first-clause-next
 returns-in_err-first-clause-next c = λ items short has.
     let config = c.args.config.now in
-    let queue = c.args.queue.now.items in
+    let queue = c.args.queue.now in
     let tiers = c.args.tiers.now in
     let part = queued-part config items tiers queue [] c.args.start c.args.room.slots has in
     rw c.from_residual.ensures
     (alone-next config items tiers queue [] c.args.start c.args.room.slots has None refl
-    ((rw (c.deref.ensures.value) at c.in_err-first.ensures.next) items part))
+    (c.in_err-first.ensures.next items part))
 
 pub serve_one-granted-requires-clause-begun : goal.serve_one-granted-requires-clause-begun
 serve_one-granted-requires-clause-begun c =
     let config = c.args.config.now in
     let items = c.requires.started.0 in
     let has = c.requires.started.2 in
-    let queue = c.args.queue.now.items in
+    let queue = c.args.queue.now in
     let slots = c.args.room.slots in
     let index = c.soonest_of-index.result in
     let tiers = c.args.tiers.now in
     let part = queued-part config items tiers queue [] c.args.start slots has in
     let is =
     next-alone config items tiers queue [] c.args.start slots has index refl
-    ((rw (c.deref-2.ensures.value) at c.soonest_of-index.ensures.next) items part) in
+    (c.soonest_of-index.ensures.next items part) in
     let here =
-    read-here queue index c.index.result.now (rw c.deref-2.ensures.value at c.soonest_of-index.ensures.within) c.index.ensures in
-    next-begun config items tiers queue [] c.args.start slots (Queued index) c.index.result.now has is here
+    read-here queue index c.index-queue-index.result c.soonest_of-index.ensures.within c.index-queue-index.is in
+    next-begun config items tiers queue [] c.args.start slots (Queued index) c.index-queue-index.result has is here
 
 pub serve_one-granted-requires-clause-most : goal.serve_one-granted-requires-clause-most
 serve_one-granted-requires-clause-most c =
@@ -49,17 +49,17 @@ put_short-requires-clause-here c =
     let config = c.args.config.now in
     let items = c.requires.started.0 in
     let has = c.requires.started.2 in
-    let queue = c.args.queue.now.items in
+    let queue = c.args.queue.now in
     let slots = c.args.room.slots in
     let index = c.soonest_of-index.result in
-    let w = c.index.result.now in
+    let w = c.index-queue-index.result in
     let tiers = c.args.tiers.now in
     let part = queued-part config items tiers queue [] c.args.start slots has in
     let is =
     next-alone config items tiers queue [] c.args.start slots has index refl
-    ((rw (c.deref-2.ensures.value) at c.soonest_of-index.ensures.next) items part) in
+    (c.soonest_of-index.ensures.next items part) in
     let here =
-    read-here queue index w (rw c.deref-2.ensures.value at c.soonest_of-index.ensures.within) c.index.ensures in
+    read-here queue index w c.soonest_of-index.ensures.within c.index-queue-index.is in
     let waits = next-waits config items queue [] c.args.start slots (Queued index) w here is in
     let late =
     next-later config items tiers queue [] c.args.start slots (Queued index) w has is here
@@ -69,17 +69,17 @@ put_short-requires-clause-here c =
 pub returns-clause-next : goal.returns-clause-next
 returns-clause-next c = λ items short has.
     let config = c.args.config.now in
-    let queue = c.args.queue.now.items in
+    let queue = c.args.queue.now in
     let slots = c.args.room.slots in
     let index = c.soonest_of-index.result in
-    let w = c.index.result.now in
+    let w = c.index-queue-index.result in
     let tiers = c.args.tiers.now in
     let part = queued-part config items tiers queue [] c.args.start slots has in
     let is =
     next-alone config items tiers queue [] c.args.start slots has index refl
-    ((rw (c.deref-2.ensures.value) at c.soonest_of-index.ensures.next) items part) in
+    (c.soonest_of-index.ensures.next items part) in
     let here =
-    read-here queue index w (rw c.deref-2.ensures.value at c.soonest_of-index.ensures.within) c.index.ensures in
+    read-here queue index w c.soonest_of-index.ensures.within c.index-queue-index.is in
     let waits = next-waits config items queue [] c.args.start slots (Queued index) w here is in
     record {
       at = Queued index;

@@ -11,9 +11,9 @@ pub serve_one-granted-requires-clause-begun : goal.serve_one-granted-requires-cl
 serve_one-granted-requires-clause-begun c =
     let has = c.requires.started.1 in
     let next =
-    (rw (c.deref.ensures.value, c.deref-2.ensures.value) at c.in_ok-standing.ensures.next) c.requires.started.0 has in
-    let here = rw (c.deref-3.ensures.value, c.deref-4.ensures.value) at c.one_at-waiting.ensures in
-    next-begun c.args.config.now c.requires.started.0 c.args.tiers.now c.args.queue.now.items c.args.served.now.items c.args.start
+    (rw c.deref.ensures.value at c.in_ok-standing.ensures.next) c.requires.started.0 has in
+    let here = rw c.deref-2.ensures.value at c.one_at-waiting.ensures in
+    next-begun c.args.config.now c.requires.started.0 c.args.tiers.now c.args.queue.now c.args.served.now.items c.args.start
     c.args.room.slots c.in_ok-standing.standing c.one_at-waiting.result has next here
 
 pub serve_one-granted-requires-clause-most : goal.serve_one-granted-requires-clause-most
@@ -26,13 +26,13 @@ put_served-requires-clause-here c =
     let config = c.args.config.now in
     let items = c.requires.started.0 in
     let has = c.requires.started.1 in
-    let queue = c.args.queue.now.items in
+    let queue = c.args.queue.now in
     let served = c.args.served.now.items in
     let slots = c.args.room.slots in
     let at = c.in_ok-standing.standing in
     let w = c.one_at-waiting.result in
-    let next = (rw (c.deref.ensures.value, c.deref-2.ensures.value) at c.in_ok-standing.ensures.next) items has in
-    let here = rw (c.deref-3.ensures.value, c.deref-4.ensures.value) at c.one_at-waiting.ensures in
+    let next = (rw c.deref.ensures.value at c.in_ok-standing.ensures.next) items has in
+    let here = rw c.deref-2.ensures.value at c.one_at-waiting.ensures in
     let waits = next-waits config items queue served c.args.start slots at w here next in
     let late =
     next-later config items c.args.tiers.now queue served c.args.start slots at w has next here c.serve_one-granted.new.waiting.turn
@@ -41,12 +41,12 @@ put_served-requires-clause-here c =
 
 pub returns-clause-next : goal.returns-clause-next
 returns-clause-next c = λ items has.
-    let queue = c.args.queue.now.items in
+    let queue = c.args.queue.now in
     let served = c.args.served.now.items in
     let at = c.in_ok-standing.standing in
     let w = c.one_at-waiting.result in
-    let next = (rw (c.deref.ensures.value, c.deref-2.ensures.value) at c.in_ok-standing.ensures.next) items has in
-    let here = rw (c.deref-3.ensures.value, c.deref-4.ensures.value) at c.one_at-waiting.ensures in
+    let next = (rw c.deref.ensures.value at c.in_ok-standing.ensures.next) items has in
+    let here = rw c.deref-2.ensures.value at c.one_at-waiting.ensures in
     let waits = next-waits c.args.config.now items queue served c.args.start c.args.room.slots at w here next in
     record {
       at = at;

@@ -1,6 +1,6 @@
 -- It is put in where it is not in the queue yet, moves behind those no later, or is taken out and put in again.
-use Rattle.std.proofs.Common.{◌≡◌, ◌==◌, sym, ap, ◌∙◌, position, remove, Some, length, arith}
-use Rattle.std.proofs.lemmas.List.{take_at, get_or_default}
+use Rattle.std.proofs.Common.{◌≡◌, ◌==◌, sym, ap, ◌∙◌, position, remove, Some, arith}
+use Rattle.std.proofs.lemmas.List.{get_or_default}
 use Rattle.std.proofs.lemmas.List.Quantifiers.{position-Some}
 use Rattle.flow_book.specs.declared.waiting.Waiting.{Waiting}
 use Rattle.flow_book.proofs.Queues.{taken-at, none-out, none-at}
@@ -8,9 +8,9 @@ use Rattle.flow_book.proofs.Searches.{rises}
 use Rattle.flow_book.proofs.queue.move_to_turn.Goals as goal
 
 -- its place in the queue
-stands : (c : goal.After-deref_mut) → position (λ (w : Waiting). w.place == c.args.waiting.place) c.args.queue.now.items
+stands : (c : goal.After-make_contiguous) → position (λ (w : Waiting). w.place == c.args.waiting.place) c.args.queue.now.items
     ≡ Some c.in-Some.index
-stands c = sym (rw c.deref.ensures.value at c.in-Some.ensures)
+stands c = sym c.in-Some.ensures
 
 pub move_back-requires-clause-before : goal.move_back-requires-clause-before
 move_back-requires-clause-before c = λ k d early.
@@ -21,20 +21,21 @@ move_back-requires-clause-before c = λ k d early.
     let here = ap (λ (w : Waiting). w.turn) c.index.ensures in
     let same =
     ap (λ (w : Waiting). w.turn) (get_or_default queue c.in-Some.index d c.index.result.now within) in
-    rw c.deref_mut.ensures.value (omega (arith, less, here, same, c.if-index-waiting.true))
+    rw c.make_contiguous.ensures.value (omega (arith, less, here, same, c.if-index-waiting.true))
 
 pub returns-then-index-waiting : goal.returns-then-index-waiting
 returns-then-index-waiting c = λ items is.
     let queue = c.args.queue.now.items in
     let at : position (λ (w : Waiting). w.place == c.args.waiting.place) queue ≡ Some c.in-Some.index =
-    sym (rw c.deref.ensures.value at c.in-Some.ensures) in
-    let moved = rw c.deref_mut.ensures.value at c.move_back.ensures.moved in
-    let long : length c.move_back.new.queue ≡ c.args.queue.now.len =
-    omega (arith, c.move_back.ensures.len, ap length c.deref_mut.ensures.value, c.args.queue.now.ok.0) in
+    sym c.in-Some.ensures in
+    let moved = rw c.make_contiguous.ensures.value at c.move_back.ensures.moved in
+    let back =
+    c.make_contiguous.ensures.writes_back c.move_back.new.queue
+    (c.move_back.ensures.len ∙ c.make_contiguous.ensures.len) in
     record {
       others = remove queue c.in-Some.index;
       among = taken-at items queue c.args.waiting.place c.in-Some.index c.index.result.now at is;
-      is = take_at c.move_back.new.queue _ c.args.queue.now.len long ∙ moved;
+      is = back ∙ moved;
     }
 
 pub put_in_turn-requires : goal.put_in_turn-requires
@@ -45,7 +46,7 @@ returns-in_default c = λ items is. record {
   others = c.args.queue.now.items;
   among = none-out items c.args.queue.now.items c.args.waiting.place
       (none-at c.args.waiting.place c.args.queue.now.items
-      (sym (rw c.deref.ensures.value at c.in_default.ensures))) is;
+      (sym c.in_default.ensures)) is;
   is = c.in_ok-put_in_turn.ensures.put;
 }
 

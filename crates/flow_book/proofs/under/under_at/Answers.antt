@@ -1,10 +1,10 @@
 -- The SID of a flow more stands behind, where it waits under its reservation.
-use Rattle.std.proofs.Common.{◌≡◌, sym, ap, ◌∙◌, refl, ℕ, ◌<◌, Bool, true, false, List, [], ◌∷◌, ◌++◌, map, filter, length, take, cond, arith}
+use Rattle.std.proofs.Common.{◌≡◌, sym, ap, ◌∙◌, refl, ℕ, Bool, true, false, List, [], ◌∷◌, ◌++◌, map, filter, take, cond, arith}
 use Rattle.std.proofs.lemmas.List.{append-nil, map-append, take_all}
 use Rattle.std.proofs.lemmas.List.Elements.{filter-append}
 use Rattle.flow_book.specs.Flows.{LiveFlow}
 use Rattle.flow_book.specs.Choice.{HasStartedBy}
-use Rattle.flow_book.specs.Entry.{live, IsSoundFlow, KeepsSums}
+use Rattle.flow_book.specs.Entry.{live, IsSoundFlow}
 use Rattle.flow_book.specs.Reserved.{waits_under}
 use Rattle.flow_book.proofs.Steps.{taken-item, all-item}
 use Rattle.flow_book.proofs.under.under_at.Goals as goal

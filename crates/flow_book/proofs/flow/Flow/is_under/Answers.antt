@@ -1,5 +1,5 @@
 -- The bytes that the flow wants at least are those that its reservation is asked for.
-use Rattle.std.proofs.Common.{◌≡◌, sym, ap, ◌∙◌}
+use Rattle.std.proofs.Common.{sym, ap, ◌∙◌}
 use Rattle.flow_book.specs.Bucket.{reserves}
 use Rattle.flow_book.specs.Entry.{live}
 use Rattle.flow_book.proofs.Periods.{begun-by}

@@ -1,9 +1,9 @@
 -- The flow that is next has one grant more, and is put in its turn.
-use Rattle.std.proofs.Common.{◌≡◌, ◌⊎◌, ◌∙◌, Some, sym, ap, subst, map, slice_get, length, drop, arith}
+use Rattle.std.proofs.Common.{◌≡◌, ◌⊎◌, ◌∙◌, Some, refl, sym, ap, subst, map, slice_get, length, drop, arith}
 use Rattle.std.proofs.lemmas.List.{take_at}
 use Rattle.std.specs.Option.{IsSomeAnd, IfSome}
 use Rattle.flow_book.specs.Choice.{IsNext, IsAmount, NoneEligible}
-use Rattle.flow_book.specs.Queue.{IsIn, served_of}
+use Rattle.flow_book.specs.Queue.{IsIn, NoneWaitsBefore, served_of}
 use Rattle.flow_book.specs.Parts.{HasStartedIn, IsServedFirst}
 use Rattle.flow_book.specs.declared.flow.Grant.{Grant}
 use Rattle.flow_book.specs.Flows.{flow_of}
@@ -21,7 +21,7 @@ serve_first-requires-clause-started c =
     started-queue c.self.inside.channel c.self.inside.before.items c.self.inside.flows.items c.self.inside.is_long
     c.self.inside.queue.items c.self.inside.served.items c.self.inside.tiers.items _ c.self.inside.first c.args.start o
     (rw (← c.self.view_is) at c.requires.started) in
-    (o.items, o.order, rw (c.deref_mut.ensures.value, c.config-config.ensures) has)
+    (o.items, rw c.make_contiguous.ensures.value o.order, rw (c.make_contiguous.ensures.value, c.deref_mut.ensures.value, c.config-config.ensures) has)
 
 pub returns-in_err-served-clause-next : goal.returns-in_err-served-clause-next
 returns-in_err-served-clause-next c =
@@ -31,12 +31,12 @@ returns-in_err-served-clause-next c =
     started-queue config c.self.inside.before.items c.self.inside.flows.items c.self.inside.is_long
     c.self.inside.queue.items c.self.inside.served.items c.self.inside.tiers.items _ c.self.inside.first c.args.start o
     (rw (← c.self.view_is) at c.requires.started) in
-    let none = (rw (c.deref_mut.ensures.value, c.config-config.ensures) at c.in_err-served.ensures.next) o.items o.order has in
+    let none = (rw (c.make_contiguous.ensures.value, c.deref_mut.ensures.value, c.config-config.ensures) at c.in_err-served.ensures.next) o.items o.order has in
     rw (← c.self.view_is, c.from_residual.ensures)
     (subst (λ fs. NoneEligible config fs c.args.start c.args.room) o.shows none)
 
 -- all its grants have started
-has-started : (c : goal.After-self-2-1) → HasStartedIn c.self.inside.channel c.self.invariant.items
+has-started : (c : goal.After-self-3-1) → HasStartedIn c.self.inside.channel c.self.invariant.items
     c.self.inside.tiers.items c.self.inside.queue.items c.self.inside.served.items c.args.start
 has-started c =
     started-queue c.self.inside.channel c.self.inside.before.items c.self.inside.flows.items c.self.inside.is_long
@@ -44,34 +44,34 @@ has-started c =
     (rw (← c.self.view_is) at c.requires.started)
 
 -- the first is served
-first : (c : goal.After-self-2-1) → IsServedFirst c.self.inside.channel c.self.inside.is_long c.self.invariant.items
-    c.self.inside.tiers.items c.serve_first.new.tiers c.self.inside.queue.items c.self.inside.served.items c.serve_first.new.queue.items c.serve_first.new.served.items
+first : (c : goal.After-self-3-1) → IsServedFirst c.self.inside.channel c.self.inside.is_long c.self.invariant.items
+    c.self.inside.tiers.items c.serve_first.new.tiers c.self.inside.queue.items c.self.inside.served.items c.serve_first.new.queue c.serve_first.new.served.items
     c.args.start c.args.room c.most_in-bytes.result c.in_ok-served.served.sid c.in_ok-served.served.bytes
 first c =
-    (rw (c.deref_mut.ensures.value, c.config-config.ensures) at c.in_ok-served.ensures.next) c.self.invariant.items c.self.invariant.order
+    (rw (c.make_contiguous.ensures.value, c.deref_mut.ensures.value, c.config-config.ensures) at c.in_ok-served.ensures.next) c.self.invariant.items c.self.invariant.order
     (has-started c)
 
 -- the flow is served
-served : (c : goal.After-self-2-1) → IsServed c.self.inside.channel c.self.invariant.items c.self.inside.is_long
-    c.serve_first.new.tiers c.self.inside.queue.items c.self.inside.served.items c.serve_first.new.queue.items c.serve_first.new.served.items
+served : (c : goal.After-self-3-1) → IsServed c.self.inside.channel c.self.invariant.items c.self.inside.is_long
+    c.serve_first.new.tiers c.self.inside.queue.items c.self.inside.served.items c.serve_first.new.queue c.serve_first.new.served.items
     c.args.start c.args.room c.in_ok-served.served.bytes (first c).waiting (first c).new
 served c =
     let f = first c in
     is-served c.self.inside.channel c.self.invariant.items c.self.inside.tiers.items c.serve_first.new.tiers
-    c.self.inside.queue.items c.self.inside.served.items c.serve_first.new.queue.items c.serve_first.new.served.items
+    c.self.inside.queue.items c.self.inside.served.items c.serve_first.new.queue c.serve_first.new.served.items
     c.args.start c.args.room c.in_ok-served.served.sid c.in_ok-served.served.bytes c.most_in-bytes.result f.at f.waiting
     f.new (rw c.config-config.ensures at c.in_ok-served.ensures.lawful) (has-started c) f.here f.next
     (rw c.config-config.ensures at c.most_in-bytes.ensures) f.granted c.self.inside.is_long
     c.self.invariant.tiered.ones f.put
 
 -- its SID is told by its turn
-same-sid : (c : goal.After-self-2-1) → c.in_ok-served.served.sid ≡ (served c).flow.sid
+same-sid : (c : goal.After-self-3-1) → c.in_ok-served.served.sid ≡ (served c).flow.sid
 same-sid c =
     let is = served c in
     (first c).granted.is (top_rank is.flow.spec) (Some c.args.start) is.flow.sid is.turn
 
 -- as many tiers stand behind it
-as-long : (c : goal.After-self-2-1) → length c.serve_first.new.tiers ≡ c.self.inside.tiers.len
+as-long : (c : goal.After-self-3-1) → length c.serve_first.new.tiers ≡ c.self.inside.tiers.len
 as-long c =
     omega (arith, c.serve_first.auto.tiers, ap length c.deref_mut.ensures.value, c.self.inside.tiers.ok.0)
 
@@ -84,7 +84,7 @@ invariant_of-self-2 c =
     let before = c.self.inside.before.items in
     let is_long = c.self.inside.is_long in
     let old = served_of is_long c.self.inside.queue.items c.self.inside.served.items in
-    let queue = c.serve_first.new.queue.items in
+    let queue = c.serve_first.new.queue in
     let after = c.serve_first.new.served.items in
     let ones = served_of is_long queue after in
     let shows : map live is.grown ≡ changed is.flow.sid (with_grant config grant) c.self.inside.flows.items =
@@ -110,7 +110,10 @@ invariant_of-self-2 c =
     ∙ ap (λ sid. changed sid (with_grant config grant) c.self.inside.flows.items) (same-sid c) in
     let tiers = c.serve_first.new.tiers in
     let kept = take_at tiers (drop (length tiers) c.self.inside.tiers.items) c.self.inside.tiers.len (as-long c) in
-    rw (items, kept) all
+    let back =
+    c.make_contiguous.ensures.writes_back c.serve_first.new.queue
+    (c.serve_first.auto.queue ∙ c.make_contiguous.ensures.len) in
+    rw (items, kept, back) all
 
 pub returns-clause-next : goal.returns-clause-next
 returns-clause-next c =
@@ -138,3 +141,27 @@ returns-clause-amount c =
     c.self.invariant.shows here in
     rw (← c.self.view_is) (subst (λ sid. IfSome (flow_of sid c.self.inside.flows.items)
     (λ f. IsAmount config f c.args.start c.args.room bytes)) (sym (same-sid c)) amount)
+
+pub invariant_of-self : goal.invariant_of-self
+invariant_of-self c =
+    let o = c.self.invariant in
+    let new = c.serve_first.new in
+    let same = c.in_err-served.ensures.none refl in
+    let back =
+    c.make_contiguous.ensures.writes_back new.queue (c.serve_first.auto.queue ∙ c.make_contiguous.ensures.len) in
+    let queue : new.queue ≡ c.self.inside.queue.items = same.0 ∙ c.make_contiguous.ensures.value in
+    let long : length new.tiers ≡ c.self.inside.tiers.len =
+    omega (arith, c.serve_first.auto.tiers, ap length c.deref_mut.ensures.value, c.self.inside.tiers.ok.0) in
+    let tiers = take_at new.tiers (drop (length new.tiers) c.self.inside.tiers.items) c.self.inside.tiers.len long
+    ∙ same.2 ∙ c.deref_mut.ensures.value in
+    rw (back ∙ queue, same.1, tiers) (record {
+      items = o.items;
+      shows = o.shows;
+      book = o.book;
+      order = o.order;
+      tiered = o.tiered;
+      room = o.room;
+      passed = λ many. subst (NoneWaitsBefore new.first) queue (c.serve_first.ensures.passed many);
+      same = o.same;
+      rest = o.rest;
+    })

@@ -1,5 +1,5 @@
 -- All that wait are in the two parts.
-use Rattle.std.proofs.Common.{◌≡◌, sym, map}
+use Rattle.std.proofs.Common.{◌≡◌, ◌∙◌, sym, map}
 use Rattle.std.specs.List.{AllZip}
 use Rattle.std.proofs.lemmas.Result.{IfOk-weaker}
 use Rattle.flow_book.specs.Entry.{live}
@@ -15,7 +15,7 @@ show-requires-clause-queue c =
       c.self.inside.channel,
       is.items,
       is.book,
-      rw (c.deref.ensures.value, c.deref-2.ensures.value)
+      rw (c.make_contiguous.ensures.value, c.deref.ensures.value)
           (order-in c.self.inside.is_long is.items c.self.inside.queue.items c.self.inside.served.items is.order),
       rw (before, is.shows) is.same,
     )
@@ -23,8 +23,8 @@ show-requires-clause-queue c =
 pub returns-clause-pending : goal.returns-clause-pending
 returns-clause-pending c =
     let is = c.self.invariant in
-    let order : IsQueueIn is.items c.deref.result.now c.deref-2.result.now =
-    rw (c.deref.ensures.value, c.deref-2.ensures.value)
+    let order : IsQueueIn is.items c.make_contiguous.result.now c.deref.result.now =
+    rw (c.make_contiguous.ensures.value, c.deref.ensures.value)
     (order-in c.self.inside.is_long is.items c.self.inside.queue.items c.self.inside.served.items is.order) in
     let before : map live c.args.flows.now ≡ c.self.inside.before.items = rw (← c.self.view_is) at c.requires in
     let same : AllZip IsSameFlow (map live c.args.flows.now) (map live is.items) = rw (before, is.shows) is.same in
@@ -35,11 +35,18 @@ returns-clause-pending c =
 pub returns-clause-ack : goal.returns-clause-ack
 returns-clause-ack c =
     let is = c.self.invariant in
-    let order : IsQueueIn is.items c.deref.result.now c.deref-2.result.now =
-    rw (c.deref.ensures.value, c.deref-2.ensures.value)
+    let order : IsQueueIn is.items c.make_contiguous.result.now c.deref.result.now =
+    rw (c.make_contiguous.ensures.value, c.deref.ensures.value)
     (order-in c.self.inside.is_long is.items c.self.inside.queue.items c.self.inside.served.items is.order) in
     let before : map live c.args.flows.now ≡ c.self.inside.before.items = rw (← c.self.view_is) at c.requires in
     let same : AllZip IsSameFlow (map live c.args.flows.now) (map live is.items) = rw (before, is.shows) is.same in
     rw (← c.self.view_is, sym is.shows, sym (rw c.config.ensures at c.pending-most.ensures.value))
     (IfOk-weaker c.show.result _ _ (λ s holds. holds c.self.inside.channel is.items is.book order same)
     c.show.ensures.ack)
+
+pub invariant_of-self : goal.invariant_of-self
+invariant_of-self c =
+    let back =
+    c.make_contiguous.ensures.writes_back c.make_contiguous.result.now c.make_contiguous.ensures.len
+    ∙ c.make_contiguous.ensures.value in
+    rw back c.self.invariant
