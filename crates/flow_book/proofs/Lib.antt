@@ -33,6 +33,8 @@ pub mod RowsPeak
 pub mod RowsReserved
 pub mod NextServed
 pub mod Numbered
+pub mod Numbers
+pub mod NumbersOf
 pub mod Serving
 pub mod InLine
 pub mod InOrder

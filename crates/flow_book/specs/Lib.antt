@@ -22,3 +22,4 @@ pub mod Pending
 pub mod Taking
 pub mod Tiers
 pub mod Line
+pub mod Numbers

@@ -11,6 +11,7 @@ mod flow_list;
 mod flows;
 mod granted;
 mod limits;
+mod line;
 mod overlay;
 mod parts;
 mod period;

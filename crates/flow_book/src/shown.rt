@@ -36,14 +36,14 @@ pub struct Shown {
 }
 
 // The number by which flows that wait stand in line: by the minislot, then by SID.
-fn number_of(since: u64, sid: u16) -> u128
+pub(crate) fn number_of(since: u64, sid: u16) -> u128
     ensures { result ≡ number_of since sid }
 {
     u128::from(since) * SIDS + u128::from(sid)
 }
 
 // The number by which one that waits stands in line. There is a flow at its place.
-fn number_at(waiting: &Waiting, flows: &Flows) -> u128
+pub(crate) fn number_at(waiting: &Waiting, flows: &Flows) -> u128
     ensures { result ≡ number_at flows.now waiting.now }
 {
     match flows.get(waiting.place as usize) {
