@@ -34,6 +34,7 @@ pub mod RowsReserved
 pub mod NextServed
 pub mod Numbered
 pub mod Numbers
+pub mod Mending
 pub mod NumbersOf
 pub mod Serving
 pub mod InLine

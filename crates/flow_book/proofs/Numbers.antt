@@ -1,6 +1,6 @@
 -- Numbers that stand in order: one is put in or taken out.
 use Rattle.std.proofs.Common.{◌≡◌, ◌≢◌, refl, sym, ap, ◌∙◌, ℕ, Bool, true, false, cond, ◌==◌, nat_lt}
-use Rattle.std.proofs.Common.{List, [], ◌∷◌, Option, Some, None, arith}
+use Rattle.std.proofs.Common.{List, [], ◌∷◌, ◌++◌, ◌<◌, arith}
 use Rattle.std.specs.List.{AllByRecursion}
 use Rattle.std.specs.Ordering.{nat_cmp, match_ordering, is_eq}
 use Rattle.std.specs.declared.cmp.Ordering.TheVariants.{Less, Equal, Greater}
@@ -9,9 +9,9 @@ use Rattle.std.specs.BTreeSet.{insert_key}
 use Rattle.std.specs.Set.{remove_key}
 use Rattle.std.proofs.lemmas.Bool.{cond_both}
 use Rattle.std.proofs.lemmas.Bool.Decides.{nat_tests}
-use Rattle.sched_calls.specs.Sids.{put_in}
+use Rattle.sched_calls.specs.Sids.{AscendBy, put_in}
 use Rattle.flow_book.specs.Line.{itself, sorted_into, sorted}
-use Rattle.flow_book.specs.Numbers.{listed, IsApart}
+use Rattle.flow_book.specs.Numbers.{all_inserted}
 use Rattle.flow_book.proofs.Lines.{IsNew, put_in-either, all-sorted_into}
 
 order-cond : (b e : Bool) (xs ys zs ws : List ℕ) → e ≡ false → zs ≡ ws
@@ -80,3 +80,45 @@ pub put-more : (n : ℕ) (ns xs : List ℕ) → IsNew n ns → xs ≡ sorted ns 
 put-more n ns xs new is =
     ap (λ ms. insert_key nat_cmp ms n) is ∙ insert_key-put_in n (sorted ns) (new-sorted n ns new)
     ∙ sym (sorted_into-put_in n [] ns)
+
+all-taken : (P : ℕ → Type 0) (n : ℕ) (line : List ℕ) → AllByRecursion P (put_in itself n line)
+    → P n × AllByRecursion P line
+all-taken P n [] all = (all.0, tt)
+all-taken P n (m ∷ line) all =
+    cond_both (nat_lt n m) (n ∷ m ∷ line) (m ∷ put_in itself n line)
+    (λ ms. AllByRecursion P ms → P n × AllByRecursion P (m ∷ line))
+    (λ low both. both)
+    (λ high both. let rest = all-taken P n line both.1 in (rest.0, (both.0, rest.1))) all
+
+later-new : (n : ℕ) (line : List ℕ) → AllByRecursion (λ m. n < m) line → IsNew n line
+later-new n [] above = tt
+later-new n (m ∷ line) above = ((λ same. absurd (omega (arith, above.0, same))), later-new n line above.1)
+
+-- where numbers ascend with one more, it is none of the others
+ascends-without : (n : ℕ) (line : List ℕ) → AscendBy itself (put_in itself n line)
+    → AscendBy itself line × IsNew n line
+ascends-without n [] up = (tt, tt)
+ascends-without n (m ∷ line) up =
+    cond_both (nat_lt n m) (n ∷ m ∷ line) (m ∷ put_in itself n line)
+    (λ ms. AscendBy itself ms → AscendBy itself (m ∷ line) × IsNew n (m ∷ line))
+    (λ low rises. (rises.1, later-new n (m ∷ line) rises.0))
+    (λ high rises. let rest = ascends-without n line rises.1 in
+    let above = all-taken (λ k. m < k) n line rises.0 in
+    ((above.1, rest.0), ((λ same. absurd (omega (arith, above.0, same))), rest.1))) up
+
+ascends-start : (line ns : List ℕ) → AscendBy itself (sorted_into line ns) → AscendBy itself line
+ascends-start line [] up = up
+ascends-start line (n ∷ ns) up = (ascends-without n line (ascends-start (put_in itself n line) ns up)).0
+
+-- numbers that differ come in order into a set
+pub inserted-sorted : (line ns : List ℕ) → AscendBy itself (sorted_into line ns)
+    → all_inserted line ns ≡ sorted_into line ns
+inserted-sorted line [] up = refl
+inserted-sorted line (n ∷ ns) up =
+    let new = (ascends-without n line (ascends-start (put_in itself n line) ns up)).1 in
+    ap (λ l. all_inserted l ns) (insert_key-put_in n line new) ∙ inserted-sorted (put_in itself n line) ns up
+
+-- some come in behind others
+pub inserted-append : (line ms ns : List ℕ) → all_inserted line (ms ++ ns) ≡ all_inserted (all_inserted line ms) ns
+inserted-append line [] ns = refl
+inserted-append line (m ∷ ms) ns = inserted-append (insert_key nat_cmp line m) ms ns

@@ -1,15 +1,19 @@
 -- The numbers in line of flows of which one changes, is put in or is taken out.
 use Rattle.std.proofs.Common.{◌≡◌, ◌≢◌, refl, sym, ap, ◌∙◌, subst, ℕ, zero, suc, ◌+◌, ◌<◌, ◌≤◌, ◌^◌, Bool, true, false, cond}
-use Rattle.std.proofs.Common.{List, [], ◌∷◌, map, filter, length, set, insert, remove, slice_get, Option, Some, None, arith}
+use Rattle.std.proofs.Common.{List, [], ◌∷◌, map, filter, length, set, get_or, insert, remove, slice_get, option_map, Option, Some, None, arith}
 use Rattle.std.specs.List.{AllByRecursion}
 use Rattle.std.proofs.lemmas.Bool.{cond_both}
-use Rattle.std.proofs.lemmas.Option.{slice_get_within}
-use Rattle.flow_book.specs.Flows.{LiveFlow}
+use Rattle.std.proofs.lemmas.List.{map-set}
+use Rattle.std.proofs.lemmas.Option.{slice_get_within, slice_get-get_or, slice_get_read, slice_get-map}
+use Rattle.minislots.specs.declared.config.Config.{Config}
+use Rattle.flow_book.specs.declared.flow.Flow.{Flow}
+use Rattle.flow_book.specs.Flows.{LiveFlow, granted}
+use Rattle.flow_book.specs.Entry.{live, IsBook, IsSoundFlow}
 use Rattle.flow_book.specs.Book.{Ascend}
 use Rattle.flow_book.specs.Shown.{waits, number_of, number_in_line, since}
 use Rattle.flow_book.specs.Line.{itself, numbers_of, sorted_into, sorted}
 use Rattle.flow_book.specs.Numbers.{number_where, listed, IsApart, IsLineOf, LineView, DifferByOne, HasChanged}
-use Rattle.flow_book.proofs.InLine.{AreSmall}
+use Rattle.flow_book.proofs.InLine.{AreSmall, small-of}
 use Rattle.flow_book.proofs.Lines.{IsNew, put_in-either}
 use Rattle.flow_book.proofs.Queues.{all-remove, all-both, set-here}
 use Rattle.flow_book.proofs.StillWaiting.{all-at}
@@ -156,3 +160,29 @@ numbers-insert (g ∷ flows) zero f fails =
 numbers-insert (g ∷ flows) (suc k) f fails =
     numbers-more g (insert flows k f) ∙ ap (listed (number_where g)) (numbers-insert flows k f fails)
     ∙ sym (numbers-more g flows)
+
+module _ (c : Config) (items : List Flow) (book : IsBook c items) (place : ℕ) (f : Flow) where
+  -- a flow of a book was granted no more than it asked
+  pub granted-within : place < length items → f ≡ get_or items place f → granted (live f) ≤ f.asked
+  granted-within lt read =
+      let at = slice_get_read items (length items) place f refl lt read in
+      let sound = all-at (IsSoundFlow c) (map live items) place (live f) book.sound.each
+      (slice_get-map live items place ∙ ap (option_map live) at) in
+      sound.within
+
+-- where a flow of a book changes its number takes the place of that before
+pub differ-at : (c : Config) (old new : List Flow) (place : ℕ) (known : Bool) (before : Option ℕ) (g : Flow)
+    → IsBook c old → HasChanged place known before old new → known ≡ true → slice_get new place ≡ Some g
+    → DifferByOne before (number_where (live g)) (map live old) (map live new)
+differ-at c old new place known before g book changed yes' at =
+    let f = changed.flow in
+    let e = changed.after in
+    let there : slice_get (map live old) place ≡ Some (live f) =
+    slice_get-map live old place ∙ ap (option_map live) changed.at in
+    let shown : map live new ≡ set (map live old) place (live e) =
+    ap (map live) changed.is ∙ map-set live old place e in
+    let here : Some g ≡ Some e =
+    sym at ∙ ap (λ fs. slice_get fs place) changed.is ∙ set-here old place e (slice_get_within old place f changed.at) in
+    let is : g ≡ e = cc in
+    rw (shown, changed.number yes', is)
+    (differ-changed (map live old) book.sound.ascending (small-of c old book.sums) place (live f) there (live e) changed.sid)

@@ -1,16 +1,23 @@
 //! The numbers in line of the flows that wait, kept from call to call.
 
-ghost use Rattle.std.specs.Prelude.{◌≡◌, ◌<◌, ◌≤◌, true, false, List, Some, ℕ, map, take, slice_get, length, IfOk, OnOk};
+ghost use Rattle.std.specs.Prelude.{◌≡◌, ◌<◌, ◌≤◌, true, false, List, Some, ℕ, map, filter, take, slice_get, length};
+ghost use Rattle.std.specs.Prelude.{[], IfOk, OnOk};
+ghost use Rattle.std.specs.List.{AllZip};
 ghost use Rattle.minislots.specs.declared.config.Config.{Config};
 ghost use Rattle.flow_book.specs.declared.flow.Flow.{Flow};
 ghost use Rattle.flow_book.specs.Flows.{LiveFlow, granted};
 ghost use Rattle.flow_book.specs.Entry.{live, IsBook};
-ghost use Rattle.flow_book.specs.Line.{sorted};
+ghost use Rattle.flow_book.specs.Line.{sorted, numbers_of};
+ghost use Rattle.flow_book.specs.Overlay.{IsSameFlow};
+ghost use Rattle.flow_book.specs.Pending.{number_at};
+ghost use Rattle.flow_book.specs.Queue.{still_waits, IsQueueIn};
 ghost use Rattle.flow_book.specs.Numbers.{IsLineOf, number_where, listed, IsApart, DifferByOne, HasChanged};
+ghost use Rattle.flow_book.specs.Numbers.{AreServed, all_inserted, number_after};
 
 use crate::flow::Flow;
 use crate::flows::Flows;
-use crate::shown::number_of;
+use crate::shown::{number_at, number_of};
+use crate::waiting::Waiting;
 use std::alloc::{AllocError, Global};
 use std::collections::BTreeSet;
 use std::marker::Model;
@@ -43,6 +50,16 @@ fn number_where(flow: &Flow) -> Option<u128>
     Some(number_of(flow.since_with(wants), flow.sid))
 }
 
+// The number in line after a MAP of one that it served, where it still waits. The flows are those before it.
+fn number_after(waiting: &Waiting, flows: &Flows) -> Option<u128>
+    ensures { result ≡ number_after flows.now waiting.now }
+{
+    if waiting.wants == 0 {
+        return None;
+    }
+    Some(number_at(waiting, flows))
+}
+
 // Takes a number out, where there is one.
 fn take_out(numbers: &mut BTreeSet<u128>, number: Option<u128>)
     ensures { (ns : List ℕ) → IsApart number ns → numbers.old.keys ≡ sorted (listed number ns)
@@ -61,6 +78,40 @@ fn put(numbers: &mut BTreeSet<u128>, number: Option<u128>) -> Result<(), AllocEr
     if let Some(number) = number {
         let _ = numbers.insert(number)?;
     }
+    Ok(())
+}
+
+// Puts the numbers of those that still wait in.
+fn put_all(
+    numbers: &mut BTreeSet<u128>,
+    part: &[Waiting],
+    flows: &Flows,
+) -> Result<(), AllocError>
+    ensures { OnOk result (numbers.new.keys
+        ≡ all_inserted numbers.old.keys (map (number_at flows.now) (filter still_waits part.now))) }
+{
+    for waiting in part {
+        if waiting.wants > 0 {
+            let _ = numbers.insert(number_at(waiting, flows))?;
+        }
+    }
+    Ok(())
+}
+
+// Puts the numbers of those of the two parts that still wait in, where none are yet.
+fn put_both(
+    numbers: &mut BTreeSet<u128>,
+    queue: &[Waiting],
+    served: &[Waiting],
+    flows: &Flows,
+) -> Result<(), AllocError>
+    requires { numbers.old.keys ≡ [] }
+    ensures { OnOk result ((c : Config) (items : List Flow) → IsBook c items
+        → IsQueueIn items queue.now served.now → AllZip IsSameFlow (map live flows.now) (map live items)
+        → numbers.new.keys ≡ sorted (numbers_of (map live items))) }
+{
+    put_all(numbers, queue, flows)?;
+    put_all(numbers, served, flows)?;
     Ok(())
 }
 
@@ -84,7 +135,8 @@ impl Line {
 
     // It is not known any more.
     pub(crate) fn forget(&mut self)
-        ensures { self.new.is_known ≡ false }
+        ensures known { self.new.is_known ≡ false }
+        ensures empty { self.new.numbers ≡ [] }
     {
         self.numbers.clear();
         self.is_known = false;
@@ -102,6 +154,58 @@ impl Line {
         if put(&mut self.numbers, after).is_err() {
             self.forget();
         }
+    }
+
+    // The number in line of the flow at this place, where it waits. Where the line is not known none is told.
+    pub(crate) fn number_at(&self, flows: &Flows, place: usize) -> Option<u128>
+        requires book { (c : Config) × IsBook c flows.now }
+        requires within { place < length flows.now }
+        ensures { self.now.is_known ≡ true → (f : Flow) → slice_get flows.now place ≡ Some f
+            → result ≡ number_where (live f) }
+    {
+        if !self.is_known {
+            return None;
+        }
+        number_where(flows.at(place))
+    }
+
+    // Keeps it where the flow at this place, which had this number before, has changed.
+    pub(crate) fn follow_at(&mut self, before: Option<u128>, flows: &Flows, place: usize)
+        requires book { (c : Config) × IsBook c flows.now }
+        requires within { place < length flows.now }
+        ensures { (c : Config) (old : List Flow) → IsBook c old
+            → HasChanged place self.old.is_known before old flows.now
+            → IsLineOf (map live old) self.old → IsLineOf (map live flows.now) self.new }
+    {
+        if self.is_known {
+            let after = number_where(flows.at(place));
+            self.follow(before, after);
+        }
+    }
+
+    // Makes it that of the flows after a MAP where it is that of those before. These are the flows before, and those that
+    // the MAP served.
+    pub(crate) fn mend(&mut self, served: &[Waiting], flows: &Flows)
+        requires { (c : Config) × (items : List Flow) × AreServed c flows.now items served.now }
+        ensures { (c : Config) (items : List Flow) → AreServed c flows.now items served.now
+            → IsLineOf (map live flows.now) self.old → IsLineOf (map live items) self.new }
+    {
+        if self.is_known {
+            for waiting in served {
+                let before = self.number_at(flows, waiting.place as usize);
+                self.follow(before, number_after(waiting, flows));
+            }
+        }
+    }
+
+    // Makes it known, from the two parts of a queue after a MAP and the flows before it. Where memory runs out it is not
+    // known.
+    pub(crate) fn fill(&mut self, queue: &[Waiting], served: &[Waiting], flows: &Flows)
+        ensures { (c : Config) (items : List Flow) → IsBook c items → IsQueueIn items queue.now served.now
+            → AllZip IsSameFlow (map live flows.now) (map live items) → IsLineOf (map live items) self.new }
+    {
+        self.forget();
+        self.is_known = put_both(&mut self.numbers, queue, served, flows).is_ok();
     }
 
     // The first so many numbers.
