@@ -18,7 +18,8 @@ use Rattle.flow_book.specs.Pending.{number_at, waiting_in}
 use Rattle.flow_book.specs.Queue.{IsAt, IsIn, AreOnce, IsQueueIn, still_waits}
 use Rattle.flow_book.specs.Shown.{waits}
 use Rattle.flow_book.specs.Line.{itself, sorted, numbers_of}
-use Rattle.flow_book.specs.Numbers.{AreServed, DifferByOne, number_where, number_after, all_inserted}
+use Rattle.flow_book.specs.Numbers.{DifferByOne, number_where, all_inserted}
+use Rattle.flow_book.specs.Mending.{AreServed, number_after}
 use Rattle.flow_book.proofs.InLine.{AreSmall, small-of, ascends}
 use Rattle.sched_calls.proofs.Insertion.{all-set}
 use Rattle.flow_book.proofs.Numbers.{inserted-sorted, inserted-append}
@@ -89,7 +90,7 @@ module _ (c : Config) (old items : List Flow) (served : List Waiting) (are : Are
   pub mixed-none : IsMixed (map live old) (map live items) served (map live old)
   mixed-none = record {
     ascending = are.before.sound.ascending;
-    small = small-of c old are.before.sums;
+    small = small-of are.config old are.before.sums;
     long = omega (arith, as-many, length-map old live, length-map items live);
     done = λ place out. elim (are.rest place) [
       | inl here ↦ absurd (out here)

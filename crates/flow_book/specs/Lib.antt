@@ -23,3 +23,4 @@ pub mod Taking
 pub mod Tiers
 pub mod Line
 pub mod Numbers
+pub mod Mending

@@ -1,17 +1,12 @@
 -- The numbers in line of the flows that wait, kept from call to call.
-use Rattle.std.specs.Prelude.{◌≡◌, ◌≢◌, ℕ, Bool, true, List, [], ◌∷◌, map, set, slice_get, Option, None, Some}
-use Rattle.std.specs.Prelude.{if◌then◌else◌, ◌⊎◌}
-use Rattle.std.specs.List.{AllByRecursion, AllZip}
+use Rattle.std.specs.Prelude.{◌≡◌, ◌≢◌, ℕ, Bool, true, List, [], ◌∷◌, set, slice_get, Option, None, Some}
+use Rattle.std.specs.Prelude.{if◌then◌else◌}
+use Rattle.std.specs.List.{AllByRecursion}
 use Rattle.std.specs.Ordering.{nat_cmp}
 use Rattle.std.specs.BTreeSet.{insert_key}
-use Rattle.minislots.specs.declared.config.Config.{Config}
 use Rattle.flow_book.specs.declared.flow.Flow.{Flow}
-use Rattle.flow_book.specs.declared.waiting.Waiting.{Waiting}
 use Rattle.flow_book.specs.Flows.{LiveFlow}
-use Rattle.flow_book.specs.Entry.{live, IsBook}
-use Rattle.flow_book.specs.Overlay.{IsSameFlow}
-use Rattle.flow_book.specs.Pending.{number_at}
-use Rattle.flow_book.specs.Queue.{IsAt, IsIn, AreOnce, still_waits}
+use Rattle.flow_book.specs.Entry.{live}
 use Rattle.flow_book.specs.Shown.{waits, number_in_line}
 use Rattle.flow_book.specs.Line.{numbers_of, sorted}
 
@@ -55,20 +50,7 @@ pub record HasChanged (place : ℕ) (is_known : Bool) (before : Option ℕ) (old
   pub is : new ≡ set old place after
   pub number : is_known ≡ true → before ≡ number_where (live flow)
 
--- The flows of a book before and after (`items`) a MAP, and those that it served: each other flow is the same
-pub record AreServed (c : Config) (old items : List Flow) (served : List Waiting) : Type 0 where
-  pub before : IsBook c old
-  pub book : IsBook c items
-  pub each : AllByRecursion (IsAt items) served
-  pub once : AreOnce served
-  pub same : AllZip IsSameFlow (map live old) (map live items)
-  pub rest : (place : ℕ) → IsIn place served ⊎ (slice_get (map live items) place ≡ slice_get (map live old) place)
-
 -- numbers in order with others, each once
 abbrev pub all_inserted : List ℕ → List ℕ → List ℕ
 all_inserted ns [] = ns
 all_inserted ns (m ∷ ms) = all_inserted (insert_key nat_cmp ns m) ms
-
--- the number after a MAP of one that it served, where it still waits, by the flows before it
-abbrev pub number_after : List Flow → Waiting → Option ℕ
-number_after flows w = if still_waits w then Some (number_at flows w) else None

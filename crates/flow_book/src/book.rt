@@ -18,6 +18,7 @@ ghost use Rattle.flow_book.specs.Book.{with_asked, with_replaced, with_spec};
 use crate::channel::Channel;
 use crate::flow::{Flow, first_eligible, reserve_each};
 use crate::flows::Flows;
+use crate::line::Line;
 use crate::overlay::Overlay;
 use crate::queue::{copy_of, follow, leave, make_room, make_way, queue_of};
 use crate::shown::Shown;
@@ -319,18 +320,20 @@ impl Book {
         } else {
             queue_of(self.flows.allocator(), &self.flows)?
         };
-        Overlay::over(&self.channel, &self.flows, queue)
+        let line = Line::none(self.flows.allocator());
+        Overlay::over(&self.channel, &self.flows, queue, line)
     }
 
     /// The flows that the MAP of an overlay shows by pending grants, in order of SID, and its acknowledge time, where all
     /// receivers have handed in what they heard before the progress. The overlay was made of this book, whose flows have
     /// not changed since.
-    pub fn show(&self, overlay: &Overlay, progress: u64) -> Result<Shown, AllocError>
-        requires { overlay.now.before ≡ self.now.flows }
+    pub fn show(&self, overlay: &mut Overlay, progress: u64) -> Result<Shown, AllocError>
+        requires { overlay.old.before ≡ self.now.flows }
         ensures pending { IfOk result (λ s. s.pending.items ≡ map (λ f. f.sid)
-            (filter (is_shown overlay.now.config.pending overlay.now.flows) overlay.now.flows)) }
+            (filter (is_shown overlay.old.config.pending overlay.old.flows) overlay.old.flows)) }
         ensures ack { IfOk result
-            (λ s. s.ack ≡ ack_of overlay.now.config.pending progress overlay.now.flows) }
+            (λ s. s.ack ≡ ack_of overlay.old.config.pending progress overlay.old.flows) }
+        ensures same { overlay.new ≡ overlay.old }
     {
         overlay.show(&self.flows, progress)
     }

@@ -12,7 +12,8 @@ ghost use Rattle.flow_book.specs.Overlay.{IsSameFlow};
 ghost use Rattle.flow_book.specs.Pending.{number_at};
 ghost use Rattle.flow_book.specs.Queue.{still_waits, IsQueueIn};
 ghost use Rattle.flow_book.specs.Numbers.{IsLineOf, number_where, listed, IsApart, DifferByOne, HasChanged};
-ghost use Rattle.flow_book.specs.Numbers.{AreServed, all_inserted, number_after};
+ghost use Rattle.flow_book.specs.Numbers.{all_inserted};
+ghost use Rattle.flow_book.specs.Mending.{AreServed, number_after};
 
 use crate::flow::Flow;
 use crate::flows::Flows;

@@ -4,7 +4,8 @@ use Rattle.minislots.specs.declared.config.Config.{Config}
 use Rattle.flow_book.specs.declared.flow.Flow.{Flow}
 use Rattle.flow_book.specs.Flows.{LiveFlow}
 use Rattle.flow_book.specs.Entry.{live}
-use Rattle.flow_book.specs.Numbers.{AreServed, IsLineOf}
+use Rattle.flow_book.specs.Mending.{AreServed}
+use Rattle.flow_book.specs.Numbers.{IsLineOf}
 use Rattle.flow_book.proofs.Mending.{IsMixed}
 use Rattle.flow_book.proofs.line.Line.mend.Given as goal
 

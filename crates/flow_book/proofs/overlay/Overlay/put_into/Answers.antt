@@ -15,7 +15,7 @@ on-ok (Err e) P whole holds = absurd (cc)
 pub take_over-requires : goal.take_over-requires
 take_over-requires c =
     let inside = c.self.inside in
-    let o = c.self.invariant in
+    let o = c.self.invariant.overlay in
     let queue = inside.queue.items in
     let served = inside.served.items in
     let old = c.args.flows.now in
@@ -29,10 +29,10 @@ take_over-requires c =
 
 -- where many waited those served are taken over
 taken-long : (c : goal.After-drop-self-inside-then-self-3) → IsTaken c.self.inside.channel c.take_over.new.flows
-    c.self.invariant.items
+    c.self.invariant.overlay.items
 taken-long c =
     let inside = c.self.inside in
-    let o = c.self.invariant in
+    let o = c.self.invariant.overlay in
     let queue = inside.queue.items in
     let served = inside.served.items in
     let old = c.args.flows.now in
@@ -47,12 +47,12 @@ taken-long c =
 pub returns-then-self-clause-book : goal.returns-then-self-clause-book
 returns-then-self-clause-book c =
     let is = taken-long c in
-    rw (← c.self.view_is) (is.book, is.shows ∙ c.self.invariant.shows)
+    rw (← c.self.view_is) (is.book, is.shows ∙ c.self.invariant.overlay.shows)
 
 pub returns-then-self-clause-order : goal.returns-then-self-clause-order
 returns-then-self-clause-order c = λ whole.
     let inside = c.self.inside in
-    let o = c.self.invariant in
+    let o = c.self.invariant.overlay in
     let queue = inside.queue.items in
     let served = inside.served.items in
     let new = c.take_over.new.flows in
@@ -66,7 +66,7 @@ returns-then-self-clause-order c = λ whole.
 pub take_over-requires-2 : goal.take_over-requires-2
 take_over-requires-2 c =
     let inside = c.self.inside in
-    let o = c.self.invariant in
+    let o = c.self.invariant.overlay in
     let queue = inside.queue.items in
     let served = inside.served.items in
     let old = c.args.flows.now in
@@ -79,10 +79,10 @@ take_over-requires-2 c =
     (inside.channel, o.items, rw (c.deref-2.ensures.value, c.deref-3.ensures.value) can, o.shows)
 
 -- where few waited those of the queue are taken over
-taken : (c : goal.After-drop-self-inside-5) → IsTaken c.self.inside.channel c.take_over-2.new.flows c.self.invariant.items
+taken : (c : goal.After-drop-self-inside-5) → IsTaken c.self.inside.channel c.take_over-2.new.flows c.self.invariant.overlay.items
 taken c =
     let inside = c.self.inside in
-    let o = c.self.invariant in
+    let o = c.self.invariant.overlay in
     let queue = inside.queue.items in
     let served = inside.served.items in
     let old = c.args.flows.now in
@@ -97,12 +97,12 @@ taken c =
 pub returns-clause-book : goal.returns-clause-book
 returns-clause-book c =
     let is = taken c in
-    rw (← c.self.view_is) (is.book, is.shows ∙ c.self.invariant.shows)
+    rw (← c.self.view_is) (is.book, is.shows ∙ c.self.invariant.overlay.shows)
 
 pub returns-clause-order : goal.returns-clause-order
 returns-clause-order c = λ whole.
     let inside = c.self.inside in
-    let o = c.self.invariant in
+    let o = c.self.invariant.overlay in
     let queue = inside.queue.items in
     let is = taken c in
     let order = rw c.if-self.false at o.order in

@@ -16,7 +16,7 @@ use Rattle.flow_book.proofs.overlay.Overlay.serve.Goals as goal
 
 pub serve_first-requires-clause-started : goal.serve_first-requires-clause-started
 serve_first-requires-clause-started c =
-    let o = c.self.invariant in
+    let o = c.self.invariant.overlay in
     let has =
     started-queue c.self.inside.channel c.self.inside.before.items c.self.inside.flows.items c.self.inside.is_long
     c.self.inside.queue.items c.self.inside.served.items c.self.inside.tiers.items _ c.self.inside.first c.args.start o
@@ -25,7 +25,7 @@ serve_first-requires-clause-started c =
 
 pub returns-in_err-served-clause-next : goal.returns-in_err-served-clause-next
 returns-in_err-served-clause-next c =
-    let o = c.self.invariant in
+    let o = c.self.invariant.overlay in
     let config = c.self.inside.channel in
     let has =
     started-queue config c.self.inside.before.items c.self.inside.flows.items c.self.inside.is_long
@@ -36,33 +36,33 @@ returns-in_err-served-clause-next c =
     (subst (λ fs. NoneEligible config fs c.args.start c.args.room) o.shows none)
 
 -- all its grants have started
-has-started : (c : goal.After-self-2-1) → HasStartedIn c.self.inside.channel c.self.invariant.items
+has-started : (c : goal.After-self-2-1) → HasStartedIn c.self.inside.channel c.self.invariant.overlay.items
     c.self.inside.tiers.items c.self.inside.queue.items c.self.inside.served.items c.args.start
 has-started c =
     started-queue c.self.inside.channel c.self.inside.before.items c.self.inside.flows.items c.self.inside.is_long
-    c.self.inside.queue.items c.self.inside.served.items c.self.inside.tiers.items _ c.self.inside.first c.args.start c.self.invariant
+    c.self.inside.queue.items c.self.inside.served.items c.self.inside.tiers.items _ c.self.inside.first c.args.start c.self.invariant.overlay
     (rw (← c.self.view_is) at c.requires.started)
 
 -- the first is served
-first : (c : goal.After-self-2-1) → IsServedFirst c.self.inside.channel c.self.inside.is_long c.self.invariant.items
+first : (c : goal.After-self-2-1) → IsServedFirst c.self.inside.channel c.self.inside.is_long c.self.invariant.overlay.items
     c.self.inside.tiers.items c.serve_first.new.tiers c.self.inside.queue.items c.self.inside.served.items c.serve_first.new.queue.items c.serve_first.new.served.items
     c.args.start c.args.room c.most_in-bytes.result c.in_ok-served.served.sid c.in_ok-served.served.bytes
 first c =
-    (rw (c.deref_mut.ensures.value, c.config-config.ensures) at c.in_ok-served.ensures.next) c.self.invariant.items c.self.invariant.order
+    (rw (c.deref_mut.ensures.value, c.config-config.ensures) at c.in_ok-served.ensures.next) c.self.invariant.overlay.items c.self.invariant.overlay.order
     (has-started c)
 
 -- the flow is served
-served : (c : goal.After-self-2-1) → IsServed c.self.inside.channel c.self.invariant.items c.self.inside.is_long
+served : (c : goal.After-self-2-1) → IsServed c.self.inside.channel c.self.invariant.overlay.items c.self.inside.is_long
     c.serve_first.new.tiers c.self.inside.queue.items c.self.inside.served.items c.serve_first.new.queue.items c.serve_first.new.served.items
     c.args.start c.args.room c.in_ok-served.served.bytes (first c).waiting (first c).new
 served c =
     let f = first c in
-    is-served c.self.inside.channel c.self.invariant.items c.self.inside.tiers.items c.serve_first.new.tiers
+    is-served c.self.inside.channel c.self.invariant.overlay.items c.self.inside.tiers.items c.serve_first.new.tiers
     c.self.inside.queue.items c.self.inside.served.items c.serve_first.new.queue.items c.serve_first.new.served.items
     c.args.start c.args.room c.in_ok-served.served.sid c.in_ok-served.served.bytes c.most_in-bytes.result f.at f.waiting
     f.new (rw c.config-config.ensures at c.in_ok-served.ensures.lawful) (has-started c) f.here f.next
     (rw c.config-config.ensures at c.most_in-bytes.ensures) f.granted c.self.inside.is_long
-    c.self.invariant.tiered.ones f.put
+    c.self.invariant.overlay.tiered.ones f.put
 
 -- its SID is told by its turn
 same-sid : (c : goal.After-self-2-1) → c.in_ok-served.served.sid ≡ (served c).flow.sid
@@ -77,7 +77,7 @@ as-long c =
 
 pub invariant_of-self-2 : goal.invariant_of-self-2
 invariant_of-self-2 c =
-    let o = c.self.invariant in
+    let o = c.self.invariant.overlay in
     let is = served c in
     let grant : Grant = record { start = c.args.start; bytes = c.in_ok-served.served.bytes } in
     let config = c.self.inside.channel in
@@ -116,11 +116,11 @@ pub returns-clause-next : goal.returns-clause-next
 returns-clause-next c =
     let is = served c in
     let config = c.self.inside.channel in
-    let flows = map live c.self.invariant.items in
+    let flows = map live c.self.invariant.overlay.items in
     let here : IsSomeAnd (flow_of is.flow.sid flows) (IsNext config flows c.args.start c.args.room) =
     rw is.found.stands.found is.found.next in
     let next =
-    subst (λ fs. IsSomeAnd (flow_of is.flow.sid fs) (IsNext config fs c.args.start c.args.room)) c.self.invariant.shows
+    subst (λ fs. IsSomeAnd (flow_of is.flow.sid fs) (IsNext config fs c.args.start c.args.room)) c.self.invariant.overlay.shows
     here in
     rw (← c.self.view_is) (subst (λ sid. IsSomeAnd (flow_of sid c.self.inside.flows.items)
     (IsNext config c.self.inside.flows.items c.args.start c.args.room)) (sym (same-sid c)) next)
@@ -130,11 +130,11 @@ returns-clause-amount c =
     let is = served c in
     let config = c.self.inside.channel in
     let bytes = c.in_ok-served.served.bytes in
-    let flows = map live c.self.invariant.items in
+    let flows = map live c.self.invariant.overlay.items in
     let here : IfSome (flow_of is.flow.sid flows) (λ f. IsAmount config f c.args.start c.args.room bytes) =
     rw is.found.stands.found is.amount in
     let amount =
     subst (λ fs. IfSome (flow_of is.flow.sid fs) (λ f. IsAmount config f c.args.start c.args.room bytes))
-    c.self.invariant.shows here in
+    c.self.invariant.overlay.shows here in
     rw (← c.self.view_is) (subst (λ sid. IfSome (flow_of sid c.self.inside.flows.items)
     (λ f. IsAmount config f c.args.start c.args.room bytes)) (sym (same-sid c)) amount)

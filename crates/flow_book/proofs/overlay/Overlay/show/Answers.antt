@@ -10,7 +10,7 @@ use Rattle.flow_book.proofs.overlay.Overlay.show.Goals as goal
 
 pub show-requires-clause-queue : goal.show-requires-clause-queue
 show-requires-clause-queue c =
-    let is = c.self.invariant in
+    let is = c.self.invariant.overlay in
     let before : map live c.args.flows.now ≡ c.self.inside.before.items = rw (← c.self.view_is) at c.requires in (
       c.self.inside.channel,
       is.items,
@@ -22,7 +22,7 @@ show-requires-clause-queue c =
 
 pub returns-clause-pending : goal.returns-clause-pending
 returns-clause-pending c =
-    let is = c.self.invariant in
+    let is = c.self.invariant.overlay in
     let order : IsQueueIn is.items c.deref.result.now c.deref-2.result.now =
     rw (c.deref.ensures.value, c.deref-2.ensures.value)
     (order-in c.self.inside.is_long is.items c.self.inside.queue.items c.self.inside.served.items is.order) in
@@ -34,7 +34,7 @@ returns-clause-pending c =
 
 pub returns-clause-ack : goal.returns-clause-ack
 returns-clause-ack c =
-    let is = c.self.invariant in
+    let is = c.self.invariant.overlay in
     let order : IsQueueIn is.items c.deref.result.now c.deref-2.result.now =
     rw (c.deref.ensures.value, c.deref-2.ensures.value)
     (order-in c.self.inside.is_long is.items c.self.inside.queue.items c.self.inside.served.items is.order) in
