@@ -35,6 +35,8 @@ pub mod NextServed
 pub mod Numbered
 pub mod Numbers
 pub mod Mending
+pub mod Mended
+pub mod Followed
 pub mod NumbersOf
 pub mod Serving
 pub mod InLine

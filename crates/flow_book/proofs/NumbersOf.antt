@@ -146,21 +146,6 @@ module _ (flows : List LiveFlow) (up : Ascend flows) (small : AreSmall flows) (k
             (subst (λ n. AllByRecursion (λ (h : LiveFlow). h.sid ≢ n) others) (sym same) sids);
       }
 
-waits-cond : (b : Bool) (f : LiveFlow) → b ≡ false → cond b (Some (number_in_line f)) None ≡ None
-waits-cond true f fails = absurd (cc)
-waits-cond false f fails = refl
-
--- a flow that does not wait changes nothing where it is put in
-pub numbers-insert : (flows : List LiveFlow) (k : ℕ) (f : LiveFlow) → waits f ≡ false
-    → numbers_of (insert flows k f) ≡ numbers_of flows
-numbers-insert [] zero f fails = numbers-more f [] ∙ ap (λ o. listed o []) (waits-cond (waits f) f fails)
-numbers-insert [] (suc k) f fails = numbers-more f [] ∙ ap (λ o. listed o []) (waits-cond (waits f) f fails)
-numbers-insert (g ∷ flows) zero f fails =
-    numbers-more f (g ∷ flows) ∙ ap (λ o. listed o (numbers_of (g ∷ flows))) (waits-cond (waits f) f fails)
-numbers-insert (g ∷ flows) (suc k) f fails =
-    numbers-more g (insert flows k f) ∙ ap (listed (number_where g)) (numbers-insert flows k f fails)
-    ∙ sym (numbers-more g flows)
-
 module _ (c : Config) (items : List Flow) (book : IsBook c items) (place : ℕ) (f : Flow) where
   -- a flow of a book was granted no more than it asked
   pub granted-within : place < length items → f ≡ get_or items place f → granted (live f) ≤ f.asked

@@ -47,7 +47,7 @@ passes : (n : ℕ) → 0 < n → nat_lt 0 n ≡ true
 passes n lt = grind (arith, nat_tests)
 
 -- within a list there is one at each place
-one-at : {X : Type 0} (xs : List X) (k : ℕ) → k < length xs → (x : X) × (slice_get xs k ≡ Some x)
+pub one-at : {X : Type 0} (xs : List X) (k : ℕ) → k < length xs → (x : X) × (slice_get xs k ≡ Some x)
 one-at [] k lt = absurd (omega arith)
 one-at (x ∷ xs) zero lt = (x, refl)
 one-at (x ∷ xs) (suc k) lt = one-at xs k (omega arith)

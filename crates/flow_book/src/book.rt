@@ -38,6 +38,8 @@ pub struct Book {
     // The flows that wait, by their turns, where they are known.
     queue: Vec<Waiting>,
     is_queued: bool,
+    // The numbers in line of the flows that wait, where they are known.
+    line: Line,
 }
 
 impl Model for Book {
@@ -55,7 +57,7 @@ impl Model for Book {
       rooms = map room_in b.flows;
     } };
 
-    ghost invariant = { λ b. IsQueuedBook b.channel b.flows b.queue.items b.is_queued };
+    ghost invariant = { λ b. IsQueuedBook b.channel b.flows b.queue.items b.is_queued b.line };
 }
 
 // The place of the live flow with this SID.
@@ -81,6 +83,7 @@ impl Book {
             flows: Flows::new(alloc),
             queue: Vec::new(alloc),
             is_queued: true,
+            line: Line::none(alloc),
         })
     }
 
@@ -187,6 +190,8 @@ impl Book {
             → other ≢ sid → room_of other self.new.rooms ≡ room_of other self.old.rooms }
     {
         let place = self.place(sid);
+        let before = self.line.number_at(&self.flows, place);
+        self.line.follow(before, None);
         self.flows.remove(place);
         leave(&mut self.queue, place);
     }
@@ -201,8 +206,10 @@ impl Book {
             { flows = changed sid (with_asked bytes heard) self.old.flows } }
     {
         let place = self.place(sid);
+        let before = self.line.number_at(&self.flows, place);
         self.flows.at_mut(place).ask(bytes, heard);
         self.is_queued = follow(&mut self.queue, self.is_queued, &self.flows, place);
+        self.line.follow_at(before, &self.flows, place);
     }
 
     /// Leaves so many bytes outstanding of a live flow that takes requests, in the place of those before, by a request
@@ -215,8 +222,10 @@ impl Book {
             { flows = changed sid (with_replaced bytes heard) self.old.flows } }
     {
         let place = self.place(sid);
+        let before = self.line.number_at(&self.flows, place);
         self.flows.at_mut(place).replace(bytes, heard);
         self.is_queued = follow(&mut self.queue, self.is_queued, &self.flows, place);
+        self.line.follow_at(before, &self.flows, place);
     }
 
     /// Gives a live flow other parameters, of its kind. What it asked and was granted stays. Another rate or burst
@@ -228,8 +237,10 @@ impl Book {
         ensures { self.new ≡ record self.old { flows = changed sid (with_spec spec) self.old.flows } }
     {
         let place = self.place(sid);
+        let before = self.line.number_at(&self.flows, place);
         self.flows.at_mut(place).change(self.channel.config(), spec);
         self.is_queued = follow(&mut self.queue, self.is_queued, &self.flows, place);
+        self.line.follow_at(before, &self.flows, place);
     }
 
     /// The most bytes of a data grant to a live flow at minislot `start`, in `room` minislots: at most
@@ -301,10 +312,12 @@ impl Book {
             → other ≢ sid → room_of other self.new.rooms ≡ room_of other self.old.rooms }
     {
         let place = self.place(sid);
+        let before = self.line.number_at(&self.flows, place);
         self.flows
             .at_mut(place)
             .grant(self.channel.config(), start, bytes);
         self.is_queued = follow(&mut self.queue, self.is_queued, &self.flows, place);
+        self.line.follow_at(before, &self.flows, place);
     }
 
     /// The flows with the data grants of a MAP, none yet. The book stays as it is.
@@ -340,12 +353,13 @@ impl Book {
 
     /// Takes the data grants of a planned MAP in: the flows are those of the overlay then. The overlay was made of this
     /// book, whose flows have not changed since.
-    pub fn take_in(&mut self, overlay: Overlay)
+    pub fn take_in(&mut self, mut overlay: Overlay)
         requires config { overlay.config ≡ self.old.config }
         requires before { overlay.before ≡ self.old.flows }
         ensures flows { self.new.flows ≡ overlay.flows }
         ensures config { self.new.config ≡ self.old.config }
     {
+        self.line = overlay.take_line();
         self.is_queued = overlay.put_into(&mut self.flows, &mut self.queue);
     }
 

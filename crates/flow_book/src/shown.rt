@@ -191,7 +191,7 @@ pub(crate) fn held_back(hidden: Hidden, progress: u64) -> u64
 
 // So many wait that their numbers are kept in line.
 fn wait_many(queue: &[Waiting], served: &[Waiting], most: usize) -> bool {
-    most < (queue.len() + served.len()) / 4
+    queue.len() + served.len() > most.saturating_mul(4)
 }
 
 // Makes a line that is that of the flows before a MAP that of those after it: it is mended where it is known, and where it

@@ -28,7 +28,7 @@ take_over-requires c =
     (inside.channel, o.items, rw (c.deref.ensures.value, c.deref-then-self.ensures.value) can, o.shows)
 
 -- where many waited those served are taken over
-taken-long : (c : goal.After-drop-self-inside-then-self-3) → IsTaken c.self.inside.channel c.take_over.new.flows
+taken-long : (c : goal.After-drop-self-inside-then-self-4) → IsTaken c.self.inside.channel c.take_over.new.flows
     c.self.invariant.overlay.items
 taken-long c =
     let inside = c.self.inside in
@@ -79,7 +79,7 @@ take_over-requires-2 c =
     (inside.channel, o.items, rw (c.deref-2.ensures.value, c.deref-3.ensures.value) can, o.shows)
 
 -- where few waited those of the queue are taken over
-taken : (c : goal.After-drop-self-inside-5) → IsTaken c.self.inside.channel c.take_over-2.new.flows c.self.invariant.overlay.items
+taken : (c : goal.After-drop-self-inside-6) → IsTaken c.self.inside.channel c.take_over-2.new.flows c.self.invariant.overlay.items
 taken c =
     let inside = c.self.inside in
     let o = c.self.invariant.overlay in

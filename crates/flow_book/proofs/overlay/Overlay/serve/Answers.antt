@@ -1,5 +1,5 @@
 -- The flow that is next has one grant more, and is put in its turn.
-use Rattle.std.proofs.Common.{◌≡◌, ◌⊎◌, ◌∙◌, Some, sym, ap, subst, map, slice_get, length, drop, arith}
+use Rattle.std.proofs.Common.{Bool, ◌≡◌, ◌⊎◌, ◌∙◌, Some, sym, ap, subst, map, slice_get, length, drop, arith}
 use Rattle.std.proofs.lemmas.List.{take_at}
 use Rattle.std.specs.Option.{IsSomeAnd, IfSome}
 use Rattle.flow_book.specs.Choice.{IsNext, IsAmount, NoneEligible}
@@ -8,6 +8,8 @@ use Rattle.flow_book.specs.Parts.{HasStartedIn, IsServedFirst}
 use Rattle.flow_book.specs.declared.flow.Grant.{Grant}
 use Rattle.flow_book.specs.Flows.{flow_of}
 use Rattle.flow_book.specs.Reserved.{with_grant}
+use Rattle.std.specs.Prelude.{if◌then◌else◌}
+use Rattle.flow_book.specs.Numbers.{IsLineOf}
 use Rattle.flow_book.specs.Overlay.{IsOverlay}
 use Rattle.flow_book.specs.Book.{changed}
 use Rattle.flow_book.specs.Entry.{live, top_rank}
@@ -36,7 +38,7 @@ returns-in_err-served-clause-next c =
     (subst (λ fs. NoneEligible config fs c.args.start c.args.room) o.shows none)
 
 -- all its grants have started
-has-started : (c : goal.After-self-2-1) → HasStartedIn c.self.inside.channel c.self.invariant.overlay.items
+has-started : (c : goal.After-forget_shown) → HasStartedIn c.self.inside.channel c.self.invariant.overlay.items
     c.self.inside.tiers.items c.self.inside.queue.items c.self.inside.served.items c.args.start
 has-started c =
     started-queue c.self.inside.channel c.self.inside.before.items c.self.inside.flows.items c.self.inside.is_long
@@ -44,7 +46,7 @@ has-started c =
     (rw (← c.self.view_is) at c.requires.started)
 
 -- the first is served
-first : (c : goal.After-self-2-1) → IsServedFirst c.self.inside.channel c.self.inside.is_long c.self.invariant.overlay.items
+first : (c : goal.After-forget_shown) → IsServedFirst c.self.inside.channel c.self.inside.is_long c.self.invariant.overlay.items
     c.self.inside.tiers.items c.serve_first.new.tiers c.self.inside.queue.items c.self.inside.served.items c.serve_first.new.queue.items c.serve_first.new.served.items
     c.args.start c.args.room c.most_in-bytes.result c.in_ok-served.served.sid c.in_ok-served.served.bytes
 first c =
@@ -52,7 +54,7 @@ first c =
     (has-started c)
 
 -- the flow is served
-served : (c : goal.After-self-2-1) → IsServed c.self.inside.channel c.self.invariant.overlay.items c.self.inside.is_long
+served : (c : goal.After-forget_shown) → IsServed c.self.inside.channel c.self.invariant.overlay.items c.self.inside.is_long
     c.serve_first.new.tiers c.self.inside.queue.items c.self.inside.served.items c.serve_first.new.queue.items c.serve_first.new.served.items
     c.args.start c.args.room c.in_ok-served.served.bytes (first c).waiting (first c).new
 served c =
@@ -65,13 +67,13 @@ served c =
     c.self.invariant.overlay.tiered.ones f.put
 
 -- its SID is told by its turn
-same-sid : (c : goal.After-self-2-1) → c.in_ok-served.served.sid ≡ (served c).flow.sid
+same-sid : (c : goal.After-forget_shown) → c.in_ok-served.served.sid ≡ (served c).flow.sid
 same-sid c =
     let is = served c in
     (first c).granted.is (top_rank is.flow.spec) (Some c.args.start) is.flow.sid is.turn
 
 -- as many tiers stand behind it
-as-long : (c : goal.After-self-2-1) → length c.serve_first.new.tiers ≡ c.self.inside.tiers.len
+as-long : (c : goal.After-forget_shown) → length c.serve_first.new.tiers ≡ c.self.inside.tiers.len
 as-long c =
     omega (arith, c.serve_first.auto.tiers, ap length c.deref_mut.ensures.value, c.self.inside.tiers.ok.0)
 
@@ -110,7 +112,12 @@ invariant_of-self-2 c =
     ∙ ap (λ sid. changed sid (with_grant config grant) c.self.inside.flows.items) (same-sid c) in
     let tiers = c.serve_first.new.tiers in
     let kept = take_at tiers (drop (length tiers) c.self.inside.tiers.items) c.self.inside.tiers.len (as-long c) in
-    rw (items, kept) all
+    rw (items, kept) (record {
+      overlay = all;
+      lined = subst (λ (b : Bool). IsLineOf (if b then changed is.flow.sid (with_grant config grant) c.self.inside.flows.items
+          else before) c.forget_shown.new.line) (sym c.forget_shown.ensures.shown)
+          (c.forget_shown.ensures.line before c.self.inside.flows.items c.self.invariant.lined);
+    })
 
 pub returns-clause-next : goal.returns-clause-next
 returns-clause-next c =
