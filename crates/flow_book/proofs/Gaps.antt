@@ -1,6 +1,6 @@
 -- Many are put into a queue with a gap.
 use Rattle.std.proofs.Common.{◌≡◌, refl, sym, ap, ◌∙◌, subst, ℕ, zero, suc, ◌+◌, ◌-◌, ◌<◌, ◌≤◌, true, false, nat_lt}
-use Rattle.std.proofs.Common.{List, [], ◌∷◌, ◌++◌, take, drop, set, length, get_or, arith, rules}
+use Rattle.std.proofs.Common.{List, [], ◌∷◌, ◌++◌, take, drop, set, length, get_or, arith}
 use Rattle.std.specs.List.{AllByRecursion}
 use Rattle.std.proofs.lemmas.Bool.Decides.{nat_tests}
 use Rattle.std.proofs.lemmas.List.{take-set-le, take_more, take-take}
@@ -88,8 +88,7 @@ module _ (queue : List Waiting) (first gap : ℕ) (w : Waiting) (within : first 
   pub later-behind : AllByRecursion (λ v. w.turn < v.turn) (drop (first + gap) queue)
       → AllByRecursion (λ v. w.turn ≤ v.turn) (drop (first + (gap - 1)) (set queue (first + gap - 1) w))
   later-behind late =
-      subst (AllByRecursion (λ v. w.turn ≤ v.turn)) (sym behind-gap)
-      (
+      subst (AllByRecursion (λ v. w.turn ≤ v.turn)) (sym behind-gap) (
         omega arith,
         all-implied (λ v. w.turn < v.turn) (λ v. w.turn ≤ v.turn) (drop (first + gap) queue)
             (λ v lt. omega (arith, lt)) late,

@@ -34,6 +34,11 @@ pub mod RowsPeak
 pub mod RowsReserved
 pub mod NextServed
 pub mod Numbered
+pub mod Numbers
+pub mod Mending
+pub mod Mended
+pub mod Followed
+pub mod NumbersOf
 pub mod Serving
 pub mod InLine
 pub mod InOrder

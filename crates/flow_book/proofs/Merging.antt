@@ -1,5 +1,5 @@
 -- Those served that still wait are put into the queue of the others.
-use Rattle.std.proofs.Common.{◌≡◌, ◌≢◌, refl, sym, ℕ, ◌<◌, ◌⊎◌, inl, inr, List, [], ◌∷◌, filter, slice_get}
+use Rattle.std.proofs.Common.{◌≡◌, ◌≢◌, refl, sym, ℕ, ◌⊎◌, inl, inr, List, [], ◌∷◌, filter, slice_get}
 use Rattle.std.specs.List.{AllByRecursion}
 use Rattle.minislots.specs.declared.config.Config.{Config}
 use Rattle.flow_book.specs.declared.flow.Flow.{Flow}

@@ -47,7 +47,7 @@ passes : (n : ℕ) → 0 < n → nat_lt 0 n ≡ true
 passes n lt = grind (arith, nat_tests)
 
 -- within a list there is one at each place
-one-at : {X : Type 0} (xs : List X) (k : ℕ) → k < length xs → (x : X) × (slice_get xs k ≡ Some x)
+pub one-at : {X : Type 0} (xs : List X) (k : ℕ) → k < length xs → (x : X) × (slice_get xs k ≡ Some x)
 one-at [] k lt = absurd (omega arith)
 one-at (x ∷ xs) zero lt = (x, refl)
 one-at (x ∷ xs) (suc k) lt = one-at xs k (omega arith)
@@ -169,7 +169,7 @@ none-found sid (v ∷ ws) all =
 
 module _ (c : Config) (items : List Flow) (are : IsBook c items) where
   -- one that waits is that of the flow at its place
-  waiting-at : (w : Waiting) (f : Flow) → IsAt items w → slice_get items w.place ≡ Some f
+  pub waiting-at : (w : Waiting) (f : Flow) → IsAt items w → slice_get items w.place ≡ Some f
       → IsWaitingOf (map live items) (live f) w
   waiting-at w f at found =
       let knows = knows-at c items are w.place f found in
@@ -256,7 +256,8 @@ number-here f n (Some g) same within wants =
     rw (left, batches, sid) refl
 
 module _ (flows : List Flow) (after : List LiveFlow) (same : AllZip IsSameFlow (map live flows) after) where
-  numbered : (f : LiveFlow) (w : Waiting) → granted f ≤ f.asked → IsWaitingOf after f w
+  -- its number is that of the flow
+  pub numbered : (f : LiveFlow) (w : Waiting) → granted f ≤ f.asked → IsWaitingOf after f w
       → number_at flows w ≡ number_in_line f
   numbered f w within is =
       let there = AllZip-right IsSameFlow (map live flows) after same w.place in
@@ -303,7 +304,8 @@ as-many flows ws after are =
 module _ (c : Config) (flows items : List Flow) (book : IsBook c items)
     (same : AllZip IsSameFlow (map live flows) (map live items)) (queue served : List Waiting)
     (is : IsQueueIn items queue served) where
-  waiting-line : AreInLine flows (waiting_in queue served) (map live items)
+  -- the numbers of those that wait are in order those of the flows
+  pub waiting-line : AreInLine flows (waiting_in queue served) (map live items)
   waiting-line = in-line c flows items (waiting_in queue served) book same (are-waiting items queue served is)
 
   -- where no more wait than are shown those that wait are

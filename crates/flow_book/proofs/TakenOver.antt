@@ -57,7 +57,7 @@ module _ {X : Type 0} where
   all-each P (x ∷ xs) each = (each 0 x refl, all-each P xs (λ k. each (suc k)))
 
 -- at one place the flows are the same but for their grants
-zip-at : (old items : List Flow) (place : ℕ) (f g : Flow) → AllZip IsSameFlow (map live old) (map live items)
+pub zip-at : (old items : List Flow) (place : ℕ) (f g : Flow) → AllZip IsSameFlow (map live old) (map live items)
     → slice_get old place ≡ Some f → slice_get items place ≡ Some g → IsSameFlow (live f) (live g)
 zip-at [] items place f g zip found at = absurd (cc)
 zip-at (x ∷ old) [] place f g zip found at = absurd (cc)

@@ -23,3 +23,5 @@ pub mod Pending
 pub mod Taking
 pub mod Tiers
 pub mod Line
+pub mod Numbers
+pub mod Mending

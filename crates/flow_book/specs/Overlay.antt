@@ -1,5 +1,5 @@
 -- The flows of a book while a MAP is planned.
-use Rattle.std.specs.Prelude.{◌≡◌, ℕ, ◌⊎◌, Bool, true, List, map, filter, slice_get}
+use Rattle.std.specs.Prelude.{◌≡◌, ℕ, ◌⊎◌, Bool, true, List, map, filter, slice_get, if◌then◌else◌}
 use Rattle.std.specs.List.{AllByRecursion, AllZip}
 use Rattle.minislots.specs.declared.config.Config.{Config}
 use Rattle.flow_book.specs.declared.flow.Flow.{Flow}
@@ -9,6 +9,7 @@ use Rattle.flow_book.specs.Flows.{LiveFlow}
 use Rattle.flow_book.specs.Entry.{live, IsBook}
 use Rattle.flow_book.specs.Queue.{IsIn, IsOrderIn, served_of, HasRoom, NoneWaitsBefore, still_waits}
 use Rattle.flow_book.specs.Tiers.{HasTier}
+use Rattle.flow_book.specs.Numbers.{LineView, IsLineOf}
 
 -- what contracts see of an overlay: the channel's configuration, the live flows of its book, and with the data grants
 -- of the MAP
@@ -41,3 +42,9 @@ pub record IsOverlay (c : Config) (before flows : List LiveFlow) (is_long : Bool
   pub same : AllZip IsSameFlow before flows
   pub rest : (place : ℕ) → IsIn place (served_of is_long queue served)
       ⊎ (slice_get flows place ≡ slice_get before place)
+
+-- and the line is that of the flows before, or where the MAP was shown that of the flows with the data grants
+pub record IsLinedOverlay (c : Config) (before flows : List LiveFlow) (is_long : Bool) (queue served : List Waiting)
+    (tiers : List Tier) (capacity first : ℕ) (line : LineView) (is_shown : Bool) : Type 0 where
+  pub overlay : IsOverlay c before flows is_long queue served tiers capacity first
+  pub lined : IsLineOf (if is_shown then flows else before) line

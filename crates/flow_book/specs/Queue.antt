@@ -13,6 +13,7 @@ use Rattle.flow_book.specs.Bucket.{BucketView}
 use Rattle.flow_book.specs.Choice.{HasStartedBy, IsEligible}
 use Rattle.flow_book.specs.Tiers.{HasTier, turn_at}
 use Rattle.flow_book.specs.Entry.{live, is_plain, IsBook}
+use Rattle.flow_book.specs.Numbers.{LineView, IsLineOf}
 use Rattle.sched_calls.specs.Sids.{AscendBy, put_in}
 
 -- a flow's turn, the bytes that it waits for, what its maximum sustained rate leaves, and whether it has neither a peak
@@ -162,7 +163,10 @@ moved_down place w = record w { place = if nat_lt place w.place then w.place - 1
 abbrev pub AreSameBut : ℕ → List Flow → List Flow → Type 0
 AreSameBut place old new = (other : ℕ) → other ≢ place → slice_get new other ≡ slice_get old other
 
--- What is true of every book: its flows are a book's, and where it is known to have a queue that is theirs
-pub record IsQueuedBook (c : Config) (items : List Flow) (queue : List Waiting) (is_queued : Bool) : Type 0 where
+-- What is true of every book: its flows are a book's, where it is known to have a queue that is theirs, and its line is
+-- theirs
+pub record IsQueuedBook (c : Config) (items : List Flow) (queue : List Waiting) (is_queued : Bool) (line : LineView)
+    : Type 0 where
   pub book : IsBook c items
   pub order : is_queued ≡ true → IsQueue items queue
+  pub lined : IsLineOf (map live items) line

@@ -18,6 +18,7 @@ ghost use Rattle.flow_book.specs.Book.{with_asked, with_replaced, with_spec};
 use crate::channel::Channel;
 use crate::flow::{Flow, first_eligible, reserve_each};
 use crate::flows::Flows;
+use crate::line::Line;
 use crate::overlay::Overlay;
 use crate::queue::{copy_of, follow, leave, make_room, make_way, queue_of, take_or_make};
 use crate::shown::Shown;
@@ -28,6 +29,7 @@ use sched_calls::FlowSpec;
 use std::alloc::{AllocError, Global};
 use std::collections::VecDeque;
 use std::marker::Model;
+use std::mem::replace;
 
 /// The live flows of one channel, in order of SID. Each has its parameters, the bytes that it asked
 /// and its data grants, and room for so many more grants.
@@ -38,6 +40,8 @@ pub struct Book {
     // The flows that wait, by their turns, where they are known.
     queue: VecDeque<Waiting>,
     is_queued: bool,
+    // The numbers in line of the flows that wait, where they are known.
+    line: Line,
 }
 
 impl Model for Book {
@@ -55,7 +59,7 @@ impl Model for Book {
       rooms = map room_in b.flows;
     } };
 
-    ghost invariant = { λ b. IsQueuedBook b.channel b.flows b.queue.items b.is_queued };
+    ghost invariant = { λ b. IsQueuedBook b.channel b.flows b.queue.items b.is_queued b.line };
 }
 
 // The place of the live flow with this SID.
@@ -81,6 +85,7 @@ impl Book {
             flows: Flows::new(alloc),
             queue: VecDeque::new(alloc),
             is_queued: true,
+            line: Line::none(alloc),
         })
     }
 
@@ -187,6 +192,8 @@ impl Book {
             → other ≢ sid → room_of other self.new.rooms ≡ room_of other self.old.rooms }
     {
         let place = self.place(sid);
+        let before = self.line.number_at(&self.flows, place);
+        self.line.follow(before, None);
         self.flows.remove(place);
         leave(&mut self.queue, place);
     }
@@ -201,8 +208,10 @@ impl Book {
             { flows = changed sid (with_asked bytes heard) self.old.flows } }
     {
         let place = self.place(sid);
+        let before = self.line.number_at(&self.flows, place);
         self.flows.at_mut(place).ask(bytes, heard);
         self.is_queued = follow(&mut self.queue, self.is_queued, &self.flows, place);
+        self.line.follow_at(before, &self.flows, place);
     }
 
     /// Leaves so many bytes outstanding of a live flow that takes requests, in the place of those before, by a request
@@ -215,8 +224,10 @@ impl Book {
             { flows = changed sid (with_replaced bytes heard) self.old.flows } }
     {
         let place = self.place(sid);
+        let before = self.line.number_at(&self.flows, place);
         self.flows.at_mut(place).replace(bytes, heard);
         self.is_queued = follow(&mut self.queue, self.is_queued, &self.flows, place);
+        self.line.follow_at(before, &self.flows, place);
     }
 
     /// Gives a live flow other parameters, of its kind. What it asked and was granted stays. Another rate or burst
@@ -228,8 +239,10 @@ impl Book {
         ensures { self.new ≡ record self.old { flows = changed sid (with_spec spec) self.old.flows } }
     {
         let place = self.place(sid);
+        let before = self.line.number_at(&self.flows, place);
         self.flows.at_mut(place).change(self.channel.config(), spec);
         self.is_queued = follow(&mut self.queue, self.is_queued, &self.flows, place);
+        self.line.follow_at(before, &self.flows, place);
     }
 
     /// The most bytes of a data grant to a live flow at minislot `start`, in `room` minislots: at most
@@ -301,10 +314,12 @@ impl Book {
             → other ≢ sid → room_of other self.new.rooms ≡ room_of other self.old.rooms }
     {
         let place = self.place(sid);
+        let before = self.line.number_at(&self.flows, place);
         self.flows
             .at_mut(place)
             .grant(self.channel.config(), start, bytes);
         self.is_queued = follow(&mut self.queue, self.is_queued, &self.flows, place);
+        self.line.follow_at(before, &self.flows, place);
     }
 
     /// The flows with the data grants of a MAP, none yet. The book stays as it is.
@@ -321,7 +336,7 @@ impl Book {
         } else {
             queue_of(alloc, &self.flows)?
         };
-        Overlay::over(&self.channel, &self.flows, queue)
+        Overlay::over(&self.channel, &self.flows, queue, Line::none(alloc))
     }
 
     /// The same as [`Book::overlay`], for a MAP that the book is to take in: what it keeps of the flows that wait goes
@@ -335,7 +350,8 @@ impl Book {
         ensures same { self.new ≡ self.old }
     {
         let queue = take_or_make(&mut self.queue, &mut self.is_queued, &self.flows)?;
-        Overlay::over(&self.channel, &self.flows, queue)
+        let line = replace(&mut self.line, Line::none(self.flows.allocator()));
+        Overlay::over(&self.channel, &self.flows, queue, line)
     }
 
     /// The flows that the MAP of an overlay shows by pending grants, in order of SID, and its acknowledge time, where all
@@ -354,12 +370,13 @@ impl Book {
 
     /// Takes the data grants of a planned MAP in: the flows are those of the overlay then. The overlay was made of this
     /// book, whose flows have not changed since.
-    pub fn take_in(&mut self, overlay: Overlay)
+    pub fn take_in(&mut self, mut overlay: Overlay)
         requires config { overlay.config ≡ self.old.config }
         requires before { overlay.before ≡ self.old.flows }
         ensures flows { self.new.flows ≡ overlay.flows }
         ensures config { self.new.config ≡ self.old.config }
     {
+        self.line = overlay.take_line();
         let queue = overlay.put_into(&mut self.flows);
         self.is_queued = queue.is_some();
         self.queue = queue.unwrap_or(VecDeque::new(self.flows.allocator()));

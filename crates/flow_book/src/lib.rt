@@ -12,6 +12,7 @@ mod flows;
 mod gap;
 mod granted;
 mod limits;
+mod line;
 mod overlay;
 mod parts;
 mod period;

@@ -1,12 +1,15 @@
 //! The flows of a book with the data grants of a MAP that is planned.
 
 ghost use Rattle.std.specs.Prelude.{◌≡◌, [], Some, map, filter, IfOk, IfSome, None, option_map, true};
-ghost use Rattle.std.specs.Prelude.{vec_capacity};
+ghost use Rattle.std.specs.Prelude.{vec_capacity, List, false, if◌then◌else◌};
+ghost use Rattle.minislots.specs.declared.config.Config.{Config};
+ghost use Rattle.flow_book.specs.Flows.{LiveFlow};
+ghost use Rattle.flow_book.specs.Numbers.{IsLineOf};
 ghost use Rattle.std.specs.List.{AllByRecursion};
 ghost use Rattle.flow_book.specs.Flows.{flow_of};
 ghost use Rattle.flow_book.specs.Choice.{IsAmount, IsNextSid, HasStartedBy};
 ghost use Rattle.flow_book.specs.Entry.{live, IsBook};
-ghost use Rattle.flow_book.specs.Queue.{IsQueue, HasRoom};
+ghost use Rattle.flow_book.specs.Queue.{IsQueue, HasRoom, served_of};
 ghost use Rattle.flow_book.specs.Shown.{is_shown, ack_of};
 ghost use Rattle.flow_book.specs.Reserved.{with_grant};
 ghost use Rattle.flow_book.specs.Book.{changed};
@@ -15,6 +18,7 @@ use crate::channel::Channel;
 use crate::flow::{Grant, Room, Served};
 use crate::flow_list::{FlowList, list_of};
 use crate::flows::Flows;
+use crate::line::Line;
 use crate::parts::serve_first;
 use crate::shown::{Shown, show};
 use crate::taking::{drop_idle, merge, take_over};
@@ -24,6 +28,7 @@ use minislots::Checked;
 use std::alloc::{AllocError, Global};
 use std::collections::VecDeque;
 use std::marker::Model;
+use std::mem::replace;
 
 // Of so many flows that wait one that is served stays in their queue: it moves back by few steps, and takes no memory.
 const FEW: usize = 32;
@@ -43,6 +48,25 @@ fn room_for_served(
     Ok(Vec::new(alloc))
 }
 
+// Those that a MAP served, with others that wait where those are few.
+fn changed_of<'a>(is_long: bool, queue: &'a [Waiting], served: &'a [Waiting]) -> &'a [Waiting]
+    ensures { result.now ≡ served_of is_long queue.now served.now }
+{
+    if is_long { served } else { queue }
+}
+
+// Makes a line that may be that of the flows with the data grants that of the flows before them.
+fn forget_shown(line: &mut Line, is_shown: &mut bool)
+    ensures line { (before flows : List LiveFlow)
+        → IsLineOf (if is_shown.old then flows else before) line.old → IsLineOf before line.new }
+    ensures shown { is_shown.new ≡ false }
+{
+    if *is_shown {
+        line.forget();
+        *is_shown = false;
+    }
+}
+
 /// The live flows of a book with the data grants of a MAP that is planned. The book stays as it is until
 /// [`Book::take_in`](crate::Book::take_in). Memory is taken for the flows that wait, and where they are many for those
 /// that the MAP serves.
@@ -59,6 +83,10 @@ pub struct Overlay {
     // The tiers of both.
     tiers: Vec<Tier>,
     is_long: bool,
+    // The numbers in line of the flows before the MAP, or where it was shown of those with its data grants, where they are
+    // known.
+    line: Line,
+    is_shown: bool,
     // The live flows before the MAP, and with its data grants, for contracts alone.
     before: FlowList,
     flows: FlowList,
@@ -70,7 +98,7 @@ impl Model for Overlay {
     ghost Value = { OverlayView };
 
     ghost use Rattle.std.specs.Prelude.{vec_capacity};
-    ghost use Rattle.flow_book.specs.Overlay.{IsOverlay};
+    ghost use Rattle.flow_book.specs.Overlay.{IsLinedOverlay};
 
     ghost view = { λ o. record {
       config = o.channel;
@@ -79,19 +107,21 @@ impl Model for Overlay {
     } };
 
     ghost invariant = { λ o.
-        IsOverlay o.channel o.before.items o.flows.items o.is_long o.queue.items o.served.items
-        o.tiers.items (vec_capacity o.served) o.first };
+        IsLinedOverlay o.channel o.before.items o.flows.items o.is_long o.queue.items o.served.items
+        o.tiers.items (vec_capacity o.served) o.first o.line o.is_shown };
 }
 
 impl Overlay {
-    // That of a book with these flows and this queue, before any grant.
+    // That of a book with these flows, this queue and this line, before any grant.
     pub(crate) fn over(
         channel: &Channel,
         flows: &Flows,
         queue: VecDeque<Waiting>,
+        line: Line,
     ) -> Result<Overlay, AllocError>
         requires book { IsBook channel.now flows.now }
         requires queue { IsQueue flows.now queue.items }
+        requires line { IsLineOf (map live flows.now) line }
         ensures { IfOk result (λ overlay. overlay ≡ record {
           config = channel.now;
           before = map live flows.now;
@@ -111,6 +141,8 @@ impl Overlay {
             served,
             tiers,
             is_long,
+            line,
+            is_shown: false,
             flows: FlowList::same(&before),
             before,
         })
@@ -155,27 +187,47 @@ impl Overlay {
         )?;
         let Served { sid, bytes } = served;
         self.flows = FlowList::granted(&self.flows, config, &sid, &Grant { start, bytes });
+        forget_shown(&mut self.line, &mut self.is_shown);
         Some(served)
     }
 
     // The flows that the MAP shows by pending grants, in order of SID, and its acknowledge time ([`Book::show`]). These
     // are the flows of the book.
     pub(crate) fn show(&mut self, flows: &Flows, progress: u64) -> Result<Shown, AllocError>
-        requires { map live flows.now ≡ self.old.before }
+        requires flows { map live flows.now ≡ self.old.before }
+        requires book { (c : Config) × IsBook c flows.now }
         ensures pending { IfOk result (λ s. s.pending.items
             ≡ map (λ f. f.sid) (filter (is_shown self.old.config.pending self.old.flows) self.old.flows)) }
         ensures ack { IfOk result (λ s. s.ack ≡ ack_of self.old.config.pending progress self.old.flows) }
         ensures same { self.new ≡ self.old }
     {
         let most = self.channel.config().pending() as usize;
-        show(
+        forget_shown(&mut self.line, &mut self.is_shown);
+        let queue: &[Waiting] = self.queue.make_contiguous();
+        let changed = changed_of(self.is_long, queue, &self.served);
+        let shown = show(
             flows.allocator(),
-            self.queue.make_contiguous(),
+            queue,
             &self.served,
+            changed,
             flows,
+            &mut self.line,
             most,
             progress,
-        )
+        );
+        self.is_shown = true;
+        shown
+    }
+
+    // The line, where it is known that of the flows with the data grants. It is not known here any more.
+    pub(crate) fn take_line(&mut self) -> Line
+        ensures line { IsLineOf self.old.flows result }
+        ensures same { self.new ≡ self.old }
+    {
+        if !self.is_shown {
+            self.line.forget();
+        }
+        replace(&mut self.line, Line::none(*self.queue.allocator()))
     }
 
     // Puts the flows with the data grants in the place of those before, and gives the queue of those that still wait,

@@ -293,7 +293,12 @@ pub(crate) fn take_or_make(
 }
 
 // Keeps a queue that is known where the flow at this place of a book has changed, and answers whether it still is.
-pub(crate) fn follow(queue: &mut VecDeque<Waiting>, is_queued: bool, flows: &Flows, place: usize) -> bool
+pub(crate) fn follow(
+    queue: &mut VecDeque<Waiting>,
+    is_queued: bool,
+    flows: &Flows,
+    place: usize,
+) -> bool
     requires book { (c : Config) × IsBook c flows.now }
     requires within { place < length flows.now }
     requires queue { is_queued ≡ true → (before : List Flow)

@@ -12,10 +12,13 @@ ghost use Rattle.flow_book.specs.Shown.{is_shown, ack_of, number_of};
 ghost use Rattle.sched_calls.specs.Sids.{put_in};
 ghost use Rattle.flow_book.specs.Line.{itself, IsInOrder, sorted_into, sorted, sid_of, held_back};
 ghost use Rattle.flow_book.specs.Overlay.{IsSameFlow};
+ghost use Rattle.flow_book.specs.Mending.{AreServed};
+ghost use Rattle.flow_book.specs.Numbers.{IsLineOf};
 ghost use Rattle.flow_book.specs.Pending.{waiting_in, sid_at, number_at};
 
 use crate::flow::SIDS;
 use crate::flows::Flows;
+use crate::line::Line;
 use crate::waiting::Waiting;
 use std::alloc::{AllocError, Global};
 
@@ -36,14 +39,14 @@ pub struct Shown {
 }
 
 // The number by which flows that wait stand in line: by the minislot, then by SID.
-fn number_of(since: u64, sid: u16) -> u128
+pub(crate) fn number_of(since: u64, sid: u16) -> u128
     ensures { result ≡ number_of since sid }
 {
     u128::from(since) * SIDS + u128::from(sid)
 }
 
 // The number by which one that waits stands in line. There is a flow at its place.
-fn number_at(waiting: &Waiting, flows: &Flows) -> u128
+pub(crate) fn number_at(waiting: &Waiting, flows: &Flows) -> u128
     ensures { result ≡ number_at flows.now waiting.now }
 {
     match flows.get(waiting.place as usize) {
@@ -114,13 +117,17 @@ fn first_in_line(
     Ok(line)
 }
 
-// How many of these still wait.
-fn count_waiting(part: &[Waiting]) -> usize
-    ensures count { result ≡ length (filter still_waits part.now) }
+// How many of these still wait: where they are more than so many, a number above it.
+fn count_up_to(part: &[Waiting], most: usize) -> usize
+    ensures few { result ≤ most → result ≡ length (filter still_waits part.now) }
+    ensures many { most < result → most < length (filter still_waits part.now) }
     ensures within { result ≤ length part.now }
 {
     let mut count = 0;
     for waiting in part {
+        if count > most {
+            return count;
+        }
         if waiting.wants > 0 {
             count += 1;
         }
@@ -135,7 +142,11 @@ fn wait_few(queue: &[Waiting], served: &[Waiting], most: usize) -> bool
     if queue.len() + served.len() <= most {
         return true;
     }
-    count_waiting(queue) + count_waiting(served) <= most
+    let count = count_up_to(queue, most);
+    if count > most {
+        return false;
+    }
+    count + count_up_to(served, most - count) <= most
 }
 
 // Puts the SIDs of those that still wait behind others.
@@ -186,36 +197,95 @@ pub(crate) fn held_back(hidden: Hidden, progress: u64) -> u64
     (hidden.number / SIDS).min(u128::from(progress)) as u64
 }
 
-// The first so many of those that still wait, all where there are no more, and the acknowledge time. The queue is in
-// two parts: those that waited before a MAP, and those that it served. They are of the flows with its data grants.
-pub(crate) fn show(
+// So many wait that their numbers are kept in line.
+fn wait_many(queue: &[Waiting], served: &[Waiting], most: usize) -> bool {
+    queue.len() + served.len() > most.saturating_mul(4)
+}
+
+// Makes a line that is that of the flows before a MAP that of those after it: it is mended where it is known, and where it
+// is not and many wait it is filled.
+fn keep_line(
+    line: &mut Line,
+    queue: &[Waiting],
+    served: &[Waiting],
+    changed: &[Waiting],
+    flows: &Flows,
+    most: usize,
+)
+    requires { (c : Config) × (items : List Flow) × AreServed c flows.now items changed.now }
+    ensures { (c : Config) (items : List Flow) → IsQueueIn items queue.now served.now
+        → AreServed c flows.now items changed.now → IsLineOf (map live flows.now) line.old
+        → IsLineOf (map live items) line.new }
+{
+    if line.is_known() {
+        line.mend(changed, flows);
+    } else if wait_many(queue, served, most) {
+        line.fill(queue, served, flows);
+    }
+}
+
+// The first so many numbers of those that still wait, from the line where it is known.
+fn least_of(
     alloc: Global,
     queue: &[Waiting],
     served: &[Waiting],
     flows: &Flows,
+    line: &Line,
+    most: usize,
+) -> Result<Vec<u128>, AllocError>
+    requires { line.now.is_known ≡ true
+        → line.now.numbers ≡ sorted (map (number_at flows.now) (waiting_in queue.now served.now)) }
+    ensures { IfOk result (λ first. first.items
+        ≡ take most (sorted (map (number_at flows.now) (waiting_in queue.now served.now)))) }
+{
+    if line.is_known() {
+        return line.first(alloc, most);
+    }
+    first_in_line(alloc, queue, served, flows, most)
+}
+
+// The first so many of those that still wait, all where there are no more, and the acknowledge time. The queue is in
+// two parts: those that waited before a MAP, and those that it served. They are of the flows with its data grants, and no
+// other has changed than the flows of `changed`. The line is that of the flows before the MAP, and that of those after it
+// then.
+pub(crate) fn show(
+    alloc: Global,
+    queue: &[Waiting],
+    served: &[Waiting],
+    changed: &[Waiting],
+    flows: &Flows,
+    line: &mut Line,
     most: usize,
     progress: u64,
 ) -> Result<Shown, AllocError>
     requires few { most < 2 ^ 32 }
     requires queue { (c : Config) × (items : List Flow) × IsBook c items × IsQueueIn items queue.now served.now
-        × AllZip IsSameFlow (map live flows.now) (map live items) }
+        × AllZip IsSameFlow (map live flows.now) (map live items) × AreServed c flows.now items changed.now
+        × IsLineOf (map live flows.now) line.old }
     ensures pending { IfOk result (λ s. (c : Config) (items : List Flow) → IsBook c items
         → IsQueueIn items queue.now served.now → AllZip IsSameFlow (map live flows.now) (map live items)
         → s.pending.items ≡ map (λ f. f.sid) (filter (is_shown most (map live items)) (map live items))) }
     ensures ack { IfOk result (λ s. (c : Config) (items : List Flow) → IsBook c items
         → IsQueueIn items queue.now served.now → AllZip IsSameFlow (map live flows.now) (map live items)
         → s.ack ≡ ack_of most progress (map live items)) }
+    ensures line { (c : Config) (items : List Flow) → IsQueueIn items queue.now served.now
+        → AreServed c flows.now items changed.now → IsLineOf (map live flows.now) line.old
+        → IsLineOf (map live items) line.new }
 {
     if wait_few(queue, served, most) {
+        line.forget();
         let pending = sids_waiting(alloc, queue, served, most)?;
         return Ok(Shown {
             pending,
             ack: progress,
         });
     }
-    let line = first_in_line(alloc, queue, served, flows, most + 1)?;
-    let pending = sids_of(alloc, &line[..most])?;
-    let hidden = Hidden { number: line[most] };
+    keep_line(line, queue, served, changed, flows, most);
+    let first = least_of(alloc, queue, served, flows, line, most + 1)?;
+    let pending = sids_of(alloc, &first[..most])?;
+    let hidden = Hidden {
+        number: first[most],
+    };
     let ack = held_back(hidden, progress);
     Ok(Shown { pending, ack })
 }

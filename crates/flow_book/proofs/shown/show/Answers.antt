@@ -7,7 +7,7 @@ use Rattle.flow_book.specs.Entry.{live}
 use Rattle.flow_book.specs.Line.{sorted, sid_of}
 use Rattle.flow_book.specs.Pending.{waiting_in}
 use Rattle.flow_book.proofs.InLine.{ack-is, small-of}
-use Rattle.flow_book.proofs.Pendings.{few-sids, few-hidden, kept-long, many-sids, many-hidden}
+use Rattle.flow_book.proofs.Pendings.{few-sids, few-hidden, waiting-line, kept-long, many-sids, many-hidden}
 use Rattle.flow_book.proofs.shown.show.Goals as goal
 
 few-of : (n most : ℕ) (b : Bool) → b ≡ nat_le n most → b ≡ true → n ≤ most
@@ -30,6 +30,12 @@ returns-then-wait_few-clause-ack c = λ c' items book is same.
     ack-is c.args.most (map live items) book.sound.ascending (small-of c' items book.sums) None c.args.progress
     (few-hidden c' c.args.flows.now items book same c.args.queue.now c.args.served.now is c.args.most few)
 
+pub least_of-requires : goal.least_of-requires
+least_of-requires c = λ known.
+    let q = c.requires.queue in
+    c.keep_line.ensures q.0 q.1 q.3 q.5 q.6 known
+    ∙ sym (waiting-line q.0 c.args.flows.now q.1 q.2 q.4 c.args.queue.now c.args.served.now q.3).numbers
+
 pub slice_bounds-sids_of-end : goal.slice_bounds-sids_of-end
 slice_bounds-sids_of-end c =
     let q = c.requires.queue in
@@ -38,7 +44,7 @@ slice_bounds-sids_of-end c =
     omega (
       arith,
       kept-long q.0 c.args.flows.now q.1 q.2 q.4 c.args.queue.now c.args.served.now q.3 c.args.most many
-          c.in_ok-line.line.items c.in_ok-line.ensures,
+          c.in_ok-first.first.items c.in_ok-first.ensures,
       ap length c.deref.ensures.value,
       length-take c.args.most c.deref.result.now,
     )
@@ -51,8 +57,8 @@ index-requires c =
     omega (
       arith,
       kept-long q.0 c.args.flows.now q.1 q.2 q.4 c.args.queue.now c.args.served.now q.3 c.args.most many
-          c.in_ok-line.line.items c.in_ok-line.ensures,
-      c.in_ok-line.line.ok.0,
+          c.in_ok-first.first.items c.in_ok-first.ensures,
+      c.in_ok-first.first.ok.0,
     )
 
 pub returns-clause-pending : goal.returns-clause-pending
@@ -61,7 +67,7 @@ returns-clause-pending c = λ c' items book is same.
     let many = many-of (length ws) c.args.most c.wait_few.result c.wait_few.ensures c.if-wait_few.false in
     c.in_ok-pending-2.ensures ∙ ap (λ ns. sorted (map sid_of (take c.args.most ns))) c.deref.ensures.value
     ∙ many-sids c' c.args.flows.now items book same c.args.queue.now c.args.served.now is c.args.most many
-    c.in_ok-line.line.items c.in_ok-line.ensures
+    c.in_ok-first.first.items c.in_ok-first.ensures
 
 pub returns-clause-ack : goal.returns-clause-ack
 returns-clause-ack c = λ c' items book is same.
@@ -72,4 +78,4 @@ returns-clause-ack c = λ c' items book is same.
     ∙ ack-is c.args.most (map live items) book.sound.ascending (small-of c' items book.sums) (Some hidden)
     c.args.progress
     (many-hidden c' c.args.flows.now items book same c.args.queue.now c.args.served.now is c.args.most many
-    c.in_ok-line.line.items c.in_ok-line.ensures hidden c.index.ensures)
+    c.in_ok-first.first.items c.in_ok-first.ensures hidden c.index.ensures)

@@ -37,11 +37,11 @@ loop-index-preserved c =
           let same : u ≡ w =
           get_or_default queue i v.index-queue-index-then-waiting.result w lt ∙ sym c.index-queue-index.is in
           rw (v.queue-is, v.tiers-is, v.in_ok-push.ensures.items) (numbered-more items old queue tiers i u lt
-                (get_or_default queue i v.index-queue-index-then-waiting.result u lt) is
-                (λ none. v.if-waiting.true (sym (ap (λ (x : Waiting). x.tier) same) ∙ none)) n v.in_ok-queue.ensures.0
-                v.in_ok-queue.ensures.1 v.tier_at.result
-                (λ f found. v.tier_at.ensures f (ap (λ (x : Waiting). slice_get items x.place) (sym same) ∙ found)
-                ∙ ap (λ (x : Waiting). told x.place f) (sym same))))
+          (get_or_default queue i v.index-queue-index-then-waiting.result u lt) is
+          (λ none. v.if-waiting.true (sym (ap (λ (x : Waiting). x.tier) same) ∙ none)) n v.in_ok-queue.ensures.0
+          v.in_ok-queue.ensures.1 v.tier_at.result
+          (λ f found. v.tier_at.ensures f (ap (λ (x : Waiting). slice_get items x.place) (sym same) ∙ found)
+          ∙ ap (λ (x : Waiting). told x.place f) (sym same))))
       | else-waiting v ↦ rw (v.queue-is, v.tiers-is) (numbered-past items old queue tiers i w lt c.index-queue-index.is is v.if-waiting.false)
     ]
 

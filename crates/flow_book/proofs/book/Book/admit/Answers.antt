@@ -10,6 +10,8 @@ use Rattle.flow_book.specs.Entry.{live, IsSoundFlow, KeepsSums}
 use Rattle.flow_book.specs.Book.{new_flow, with_flow}
 use Rattle.sched_calls.proofs.Insertion.{insert-put_in}
 use Rattle.flow_book.proofs.Admission.{sound-with_flow, room-insert}
+use Rattle.flow_book.specs.Shown.{waits}
+use Rattle.flow_book.proofs.Followed.{numbers-insert}
 use Rattle.flow_book.proofs.InLine.{few-flows}
 use Rattle.flow_book.proofs.Sums.{all-insert}
 use Rattle.flow_book.proofs.book.Book.admit.Goals as goal
@@ -62,6 +64,11 @@ invariant_of-self-2 c =
       order = λ known. rw c.in_ok-insert.ensures.ok (c.make_way.ensures items c.open-flow.result known
           (rw c.in_ok-make_room.ensures (c.self.invariant.order known)) within
           (ap outstanding c.open-flow.ensures.live));
+      lined = rw (
+        c.in_ok-insert.ensures.ok,
+        numbers-insert c.open-flow.result (ap waits c.open-flow.ensures.live) items
+            c.place_above-place.result,
+      ) c.self.invariant.lined;
       book = record {
         sound = rw flows (sound-with_flow config (new_flow c.args.sid c.args.spec) (map live items) none
             (new-sound config c.args.sid c.args.spec) c.self.invariant.book.sound);

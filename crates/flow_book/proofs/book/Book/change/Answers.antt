@@ -3,6 +3,8 @@ use Rattle.std.proofs.Common.{◌∙◌, ap}
 use Rattle.std.proofs.Math.Seq.{map-set_same}
 use Rattle.flow_book.specs.Entry.{room_in}
 use Rattle.flow_book.specs.Book.{with_spec}
+use Rattle.flow_book.proofs.Followed.{has-changed}
+use Rattle.flow_book.specs.Flows.{LiveFlow}
 use Rattle.flow_book.proofs.Places.{placed}
 use Rattle.flow_book.proofs.Changes.{placed-changed, same-view}
 use Rattle.flow_book.proofs.Sums.{placed-sums, changed-book}
@@ -11,6 +13,21 @@ use Rattle.flow_book.proofs.book.Book.change.Goals as goal
 
 pub follow-self-inside-requires-clause-book : goal.follow-self-inside-requires-clause-book
 follow-self-inside-requires-clause-book c =
+    let config = c.self.inside.channel in
+    let items = c.self.inside.flows in
+    let f = c.at_mut.result.now in
+    let is =
+    placed c.args.sid items c.place-place.result f (rw (← c.self.view_is) at c.place-place.ensures)
+    c.at_mut.ensures.value in
+    let keeps = placed-sums config c.args.sid items c.place-place.result f c.self.invariant.book is in
+    let kind = rw (← c.self.view_is, is.found) at c.requires.kind in (
+      config,
+      changed-book config c.args.sid c.args.spec items c.place-place.result c.change.new.self f
+          c.self.invariant.book is c.change.ensures.live ((rw c.config.ensures at c.change.ensures.sums) kind keeps),
+    )
+
+pub follow_at-requires-clause-book : goal.follow_at-requires-clause-book
+follow_at-requires-clause-book c =
     let config = c.self.inside.channel in
     let items = c.self.inside.flows in
     let f = c.at_mut.result.now in
@@ -46,6 +63,9 @@ invariant_of-self c =
       book = changed-book config c.args.sid c.args.spec items c.place-place.result c.change.new.self f
           c.self.invariant.book is c.change.ensures.live ((rw c.config.ensures at c.change.ensures.sums) kind keeps);
       order = λ known. c.follow-self-inside.ensures known;
+      lined = c.follow_at.ensures c.self.inside.channel items c.self.invariant.book
+          (has-changed c.args.sid items c.place-place.result c.at_mut.result.now _ _ is c.at_mut.ensures.value
+          c.number_at-before.ensures c.change.new.self (ap (λ (g : LiveFlow). g.sid) c.change.ensures.live)) c.self.invariant.lined;
     }
 
 pub returns : goal.returns

@@ -2,6 +2,7 @@
 use Rattle.std.proofs.Common.{◌∙◌, ap, arith}
 use Rattle.flow_book.specs.Flows.{LiveFlow}
 use Rattle.flow_book.specs.Reserved.{with_grant}
+use Rattle.flow_book.proofs.Followed.{has-changed}
 use Rattle.flow_book.proofs.Places.{StandsAt, placed}
 use Rattle.flow_book.proofs.Changes.{placed-changed, placed-is_sound}
 use Rattle.flow_book.proofs.Sums.{placed-sums, granted-book}
@@ -61,6 +62,21 @@ follow-self-inside-requires-clause-book c =
           (λ keeps kept. rw c.config.ensures at c.grant.ensures.sums),
     )
 
+pub follow_at-requires-clause-book : goal.follow_at-requires-clause-book
+follow_at-requires-clause-book c =
+    let config = c.self.inside.channel in
+    let items = c.self.inside.flows in
+    let f = c.at_mut.result.now in
+    let is =
+    placed c.args.sid items c.place-place.result f (rw (← c.self.view_is) at c.place-place.ensures)
+    c.at_mut.ensures.value in
+    let may = rw (← c.self.view_is, is.found) at c.requires.lawful in (
+      config,
+      granted-book config c.args.sid c.args.start c.args.bytes _ items c.place-place.result
+          c.grant.new.self f c.self.invariant.book is (rw c.config.ensures at c.grant.ensures.live) may
+          (λ keeps kept. rw c.config.ensures at c.grant.ensures.sums),
+    )
+
 pub follow-self-inside-requires-clause-queue : goal.follow-self-inside-requires-clause-queue
 follow-self-inside-requires-clause-queue c = λ known.
     let items = c.self.inside.flows in (
@@ -70,7 +86,7 @@ follow-self-inside-requires-clause-queue c = λ known.
     )
 
 -- and after it
-stands : (c : goal.After-self-2-1)
+stands : (c : goal.After-follow_at)
     → StandsAt c.args.sid c.self.inside.flows c.place-place.result c.at_mut.result.now
 stands c =
     placed c.args.sid c.self.inside.flows c.place-place.result c.at_mut.result.now
@@ -87,6 +103,9 @@ invariant_of-self c =
           c.at_mut.result.now c.self.invariant.book is (rw c.config.ensures at c.grant.ensures.live) may
           (λ keeps kept. rw c.config.ensures at c.grant.ensures.sums);
       order = λ known. c.follow-self-inside.ensures known;
+      lined = c.follow_at.ensures c.self.inside.channel items c.self.invariant.book
+          (has-changed c.args.sid items c.place-place.result c.at_mut.result.now _ _ is c.at_mut.ensures.value
+          c.number_at-before.ensures c.grant.new.self (ap (λ (g : LiveFlow). g.sid) c.grant.ensures.live)) c.self.invariant.lined;
     }
 
 pub returns-clause-flows : goal.returns-clause-flows

@@ -1,11 +1,12 @@
 -- The flows of other SIDs are left.
-use Rattle.std.proofs.Common.{◌≡◌, ◌∙◌, sym, ap, map, filter, not, ◌==◌}
+use Rattle.std.proofs.Common.{◌≡◌, ◌∙◌, sym, ap, map, filter, remove, not, ◌==◌}
 use Rattle.flow_book.specs.declared.flow.Flow.{Flow}
 use Rattle.flow_book.specs.Flows.{LiveFlow}
 use Rattle.flow_book.specs.Entry.{live, room_in, IsSoundBook, KeepsSums}
 use Rattle.flow_book.specs.Book.{Room, room_of}
 use Rattle.flow_book.proofs.Admission.{room-found}
 use Rattle.sched_calls.proofs.Removal.{map-filter, all-filter}
+use Rattle.flow_book.proofs.Followed.{differ-out}
 use Rattle.flow_book.proofs.Removal.{sound-filter, room-filter}
 use Rattle.flow_book.proofs.Shifts.{filter-at}
 use Rattle.flow_book.proofs.book.Book.remove.Goals as goal
@@ -35,6 +36,12 @@ invariant_of-self c =
           let stands = rw (← c.self.view_is) at c.place-place.ensures in
           let out = filter-at c.args.sid items c.place-place.result c.self.invariant.book.sound.ascending stands in
           rw out.1 (c.leave.ensures items out.0 (c.self.invariant.order known));
+      lined =
+          let stands = rw (← c.self.view_is) at c.place-place.ensures in
+          let out = filter-at c.args.sid items c.place-place.result c.self.invariant.book.sound.ascending stands in
+          rw out.1 (c.follow.ensures (map live items) (map live (remove items c.place-place.result)) (λ known.
+          differ-out c.self.inside.channel items c.place-place.result c.number_at-before.result c.self.invariant.book out.0
+          (c.number_at-before.ensures known)) c.self.invariant.lined);
     })
 
 pub returns-clause-removed : goal.returns-clause-removed

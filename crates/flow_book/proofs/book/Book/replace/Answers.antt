@@ -3,6 +3,8 @@ use Rattle.std.proofs.Common.{◌∙◌, ap}
 use Rattle.std.proofs.Math.Seq.{map-set_same}
 use Rattle.flow_book.specs.Entry.{live, room_in}
 use Rattle.flow_book.specs.Book.{with_replaced}
+use Rattle.flow_book.proofs.Followed.{has-changed}
+use Rattle.flow_book.specs.declared.flow.Flow.{Flow}
 use Rattle.flow_book.proofs.Places.{placed}
 use Rattle.flow_book.proofs.Changes.{placed-changed, same-view}
 use Rattle.flow_book.proofs.Sums.{placed-sums, replaced-book}
@@ -39,6 +41,18 @@ follow-self-inside-requires-clause-book c =
           items c.place-place.result f c.self.invariant.book is (rw (← c.self.view_is, is.found) at c.requires.asks)),
     )
 
+pub follow_at-requires-clause-book : goal.follow_at-requires-clause-book
+follow_at-requires-clause-book c =
+    let items = c.self.inside.flows in
+    let f = c.at_mut.result.now in
+    let is =
+    placed c.args.sid items c.place-place.result f (rw (← c.self.view_is) at c.place-place.ensures)
+    c.at_mut.ensures.value in (
+      c.self.inside.channel,
+      rw c.replace.ensures (replaced-book c.self.inside.channel c.args.sid c.args.bytes c.args.heard
+          items c.place-place.result f c.self.invariant.book is (rw (← c.self.view_is, is.found) at c.requires.asks)),
+    )
+
 pub follow-self-inside-requires-clause-queue : goal.follow-self-inside-requires-clause-queue
 follow-self-inside-requires-clause-queue c = λ known.
     let items = c.self.inside.flows in (
@@ -58,6 +72,9 @@ invariant_of-self c =
       book = rw c.replace.ensures (replaced-book c.self.inside.channel c.args.sid c.args.bytes c.args.heard items
           c.place-place.result f c.self.invariant.book is (rw (← c.self.view_is, is.found) at c.requires.asks));
       order = λ known. c.follow-self-inside.ensures known;
+      lined = c.follow_at.ensures c.self.inside.channel items c.self.invariant.book
+          (has-changed c.args.sid items c.place-place.result c.at_mut.result.now _ _ is c.at_mut.ensures.value
+          c.number_at-before.ensures c.replace.new.self (ap (λ (g : Flow). g.sid) c.replace.ensures)) c.self.invariant.lined;
     }
 
 pub returns : goal.returns

@@ -26,6 +26,7 @@ invariant_of-self-else-not-self c = record {
       c.reserve_each.ensures.sums c.self.invariant.book;
   order = λ known. same-queue c.self.inside.flows c.reserve_each.new.flows c.reserve_each.ensures.same
       c.reserve_each.ensures.entries c.self.inside.queue.items (c.self.invariant.order known);
+  lined = rw c.reserve_each.ensures.same c.self.invariant.lined;
 }
 
 pub invariant_of-self-then-not-self : goal.invariant_of-self-then-not-self
@@ -33,6 +34,7 @@ invariant_of-self-then-not-self c = record {
   book = book c.self.inside.channel c.self.inside.flows c.reserve_each.new.flows c.reserve_each.ensures.same
       c.reserve_each.ensures.sums c.self.invariant.book;
   order = λ known. c.in_ok-self-inside.ensures;
+  lined = rw c.reserve_each.ensures.same c.self.invariant.lined;
 }
 
 pub invariant_of-self : goal.invariant_of-self
@@ -40,6 +42,7 @@ invariant_of-self c = record {
   book = book c.self.inside.channel c.self.inside.flows c.reserve_each.new.flows c.reserve_each.ensures.same
       c.reserve_each.ensures.sums c.self.invariant.book;
   order = λ known. absurd (true≢false (sym known ∙ c.if-not-self.true));
+  lined = rw c.reserve_each.ensures.same c.self.invariant.lined;
 }
 
 pub returns-in_ok-self-inside-clause-room : goal.returns-in_ok-self-inside-clause-room

@@ -9,7 +9,7 @@ use Rattle.flow_book.proofs.overlay.Overlay.put_into.Goals as goal
 pub take_over-requires : goal.take_over-requires
 take_over-requires c =
     let inside = c.self.inside in
-    let o = c.self.invariant in
+    let o = c.self.invariant.overlay in
     let book = rw (← c.self.view_is) at c.requires.0 in
     let before = rw (← c.self.view_is) at c.requires.1 in
     let can =
@@ -20,13 +20,13 @@ take_over-requires c =
 pub merge-requires : goal.merge-requires
 merge-requires c =
     let inside = c.self.inside in
-    let o = c.self.invariant in
+    let o = c.self.invariant.overlay in
     (inside.channel, o.items, o.book, order-in inside.is_long o.items inside.queue.items inside.served.items o.order)
 
 pub returns-then-is_err-clause-book : goal.returns-then-is_err-clause-book
 returns-then-is_err-clause-book c =
     let inside = c.self.inside in
-    let o = c.self.invariant in
+    let o = c.self.invariant.overlay in
     let book = rw (← c.self.view_is) at c.requires.0 in
     let before = rw (← c.self.view_is) at c.requires.1 in
     let can =
@@ -39,7 +39,7 @@ returns-then-is_err-clause-book c =
 pub returns-then-self-clause-book : goal.returns-then-self-clause-book
 returns-then-self-clause-book c =
     let inside = c.self.inside in
-    let o = c.self.invariant in
+    let o = c.self.invariant.overlay in
     let book = rw (← c.self.view_is) at c.requires.0 in
     let before = rw (← c.self.view_is) at c.requires.1 in
     let can =
@@ -56,7 +56,7 @@ on-ok (Err e) P whole holds = absurd (cc)
 pub returns-then-self-clause-order : goal.returns-then-self-clause-order
 returns-then-self-clause-order c =
     let inside = c.self.inside in
-    let o = c.self.invariant in
+    let o = c.self.invariant.overlay in
     let book = rw (← c.self.view_is) at c.requires.0 in
     let before = rw (← c.self.view_is) at c.requires.1 in
     let can =
@@ -72,7 +72,7 @@ returns-then-self-clause-order c =
 pub take_over-requires-2 : goal.take_over-requires-2
 take_over-requires-2 c =
     let inside = c.self.inside in
-    let o = c.self.invariant in
+    let o = c.self.invariant.overlay in
     let book = rw (← c.self.view_is) at c.requires.0 in
     let before = rw (← c.self.view_is) at c.requires.1 in
     let can =
@@ -83,7 +83,7 @@ take_over-requires-2 c =
 pub returns-clause-book : goal.returns-clause-book
 returns-clause-book c =
     let inside = c.self.inside in
-    let o = c.self.invariant in
+    let o = c.self.invariant.overlay in
     let book = rw (← c.self.view_is) at c.requires.0 in
     let before = rw (← c.self.view_is) at c.requires.1 in
     let can =
@@ -96,7 +96,7 @@ returns-clause-book c =
 pub returns-clause-order : goal.returns-clause-order
 returns-clause-order c =
     let inside = c.self.inside in
-    let o = c.self.invariant in
+    let o = c.self.invariant.overlay in
     let book = rw (← c.self.view_is) at c.requires.0 in
     let before = rw (← c.self.view_is) at c.requires.1 in
     let can =

@@ -1,52 +1,60 @@
--- All that wait are in the two parts.
-use Rattle.std.proofs.Common.{◌≡◌, ◌∙◌, sym, map}
-use Rattle.std.specs.List.{AllZip}
+-- All that wait are in the two parts, and the line is that of the flows before the MAP.
+use Rattle.std.proofs.Common.{◌∙◌, sym, subst}
 use Rattle.std.proofs.lemmas.Result.{IfOk-weaker}
-use Rattle.flow_book.specs.Entry.{live}
-use Rattle.flow_book.specs.Overlay.{IsSameFlow}
-use Rattle.flow_book.specs.Queue.{IsQueueIn}
-use Rattle.flow_book.proofs.StillWaiting.{order-in}
+use Rattle.flow_book.specs.Numbers.{IsLineOf}
+use Rattle.flow_book.proofs.Mended.{IsShownOf, shown-of}
 use Rattle.flow_book.proofs.overlay.Overlay.show.Goals as goal
 
-pub show-requires-clause-queue : goal.show-requires-clause-queue
-show-requires-clause-queue c =
-    let is = c.self.invariant in
-    let before : map live c.args.flows.now ≡ c.self.inside.before.items = rw (← c.self.view_is) at c.requires in (
-      c.self.inside.channel,
-      is.items,
-      is.book,
-      rw (c.make_contiguous.ensures.value, c.deref.ensures.value)
-          (order-in c.self.inside.is_long is.items c.self.inside.queue.items c.self.inside.served.items is.order),
-      rw (before, is.shows) is.same,
-    )
+pub show-shown-requires-clause-queue : goal.show-shown-requires-clause-queue
+show-shown-requires-clause-queue c =
+    let is = c.self.invariant.overlay in
+    let of =
+    shown-of c.self.inside.channel c.requires.book.0 c.self.inside.before.items c.self.inside.flows.items
+    c.self.inside.is_long c.self.inside.queue.items c.self.inside.served.items c.self.inside.tiers.items _
+    c.self.inside.first c.args.flows.now c.make_contiguous.result.now c.deref-2.result.now c.changed_of-changed.result.now
+    c.forget_shown.new.line c.self.invariant.overlay c.requires.book.1 (rw (← c.self.view_is) at c.requires.flows)
+    c.make_contiguous.ensures.value c.deref-2.ensures.value
+    (rw (c.make_contiguous.ensures.value, c.deref.ensures.value) at c.changed_of-changed.ensures)
+    (c.forget_shown.ensures.line c.self.inside.before.items c.self.inside.flows.items c.self.invariant.lined) in
+    (c.self.inside.channel, is.items, is.book, of.order, of.same, of.changes, of.lined)
 
-pub returns-clause-pending : goal.returns-clause-pending
-returns-clause-pending c =
-    let is = c.self.invariant in
-    let order : IsQueueIn is.items c.make_contiguous.result.now c.deref.result.now =
-    rw (c.make_contiguous.ensures.value, c.deref.ensures.value)
-    (order-in c.self.inside.is_long is.items c.self.inside.queue.items c.self.inside.served.items is.order) in
-    let before : map live c.args.flows.now ≡ c.self.inside.before.items = rw (← c.self.view_is) at c.requires in
-    let same : AllZip IsSameFlow (map live c.args.flows.now) (map live is.items) = rw (before, is.shows) is.same in
-    rw (← c.self.view_is, sym is.shows, sym (rw c.config.ensures at c.pending-most.ensures.value))
-    (IfOk-weaker c.show.result _ _ (λ s holds. holds c.self.inside.channel is.items is.book order same)
-    c.show.ensures.pending)
-
-pub returns-clause-ack : goal.returns-clause-ack
-returns-clause-ack c =
-    let is = c.self.invariant in
-    let order : IsQueueIn is.items c.make_contiguous.result.now c.deref.result.now =
-    rw (c.make_contiguous.ensures.value, c.deref.ensures.value)
-    (order-in c.self.inside.is_long is.items c.self.inside.queue.items c.self.inside.served.items is.order) in
-    let before : map live c.args.flows.now ≡ c.self.inside.before.items = rw (← c.self.view_is) at c.requires in
-    let same : AllZip IsSameFlow (map live c.args.flows.now) (map live is.items) = rw (before, is.shows) is.same in
-    rw (← c.self.view_is, sym is.shows, sym (rw c.config.ensures at c.pending-most.ensures.value))
-    (IfOk-weaker c.show.result _ _ (λ s holds. holds c.self.inside.channel is.items is.book order same)
-    c.show.ensures.ack)
+-- what is shown
+of : (c : goal.After-self-2-1) → IsShownOf c.self.inside.channel c.args.flows.now c.self.invariant.overlay.items
+    c.make_contiguous.result.now c.deref-2.result.now c.changed_of-changed.result.now c.forget_shown.new.line
+of c =
+    shown-of c.self.inside.channel c.requires.book.0 c.self.inside.before.items c.self.inside.flows.items
+    c.self.inside.is_long c.self.inside.queue.items c.self.inside.served.items c.self.inside.tiers.items _
+    c.self.inside.first c.args.flows.now c.make_contiguous.result.now c.deref-2.result.now c.changed_of-changed.result.now
+    c.forget_shown.new.line c.self.invariant.overlay c.requires.book.1 (rw (← c.self.view_is) at c.requires.flows)
+    c.make_contiguous.ensures.value c.deref-2.ensures.value
+    (rw (c.make_contiguous.ensures.value, c.deref.ensures.value) at c.changed_of-changed.ensures)
+    (c.forget_shown.ensures.line c.self.inside.before.items c.self.inside.flows.items c.self.invariant.lined)
 
 pub invariant_of-self : goal.invariant_of-self
 invariant_of-self c =
+    let is = c.self.invariant.overlay in
+    let shown = of c in
     let back =
     c.make_contiguous.ensures.writes_back c.make_contiguous.result.now c.make_contiguous.ensures.len
     ∙ c.make_contiguous.ensures.value in
-    rw back c.self.invariant
+    record {
+      overlay = rw back is;
+      lined = subst (λ fs. IsLineOf fs c.show-shown.new.line) is.shows
+          (c.show-shown.ensures.line c.self.inside.channel is.items shown.order shown.changes shown.lined);
+    }
+
+pub returns-clause-pending : goal.returns-clause-pending
+returns-clause-pending c =
+    let is = c.self.invariant.overlay in
+    let shown = of c in
+    rw (← c.self.view_is, sym is.shows, sym (rw c.config.ensures at c.pending-most.ensures.value))
+    (IfOk-weaker c.show-shown.result _ _ (λ s holds. holds c.self.inside.channel is.items is.book shown.order shown.same)
+    c.show-shown.ensures.pending)
+
+pub returns-clause-ack : goal.returns-clause-ack
+returns-clause-ack c =
+    let is = c.self.invariant.overlay in
+    let shown = of c in
+    rw (← c.self.view_is, sym is.shows, sym (rw c.config.ensures at c.pending-most.ensures.value))
+    (IfOk-weaker c.show-shown.result _ _ (λ s holds. holds c.self.inside.channel is.items is.book shown.order shown.same)
+    c.show-shown.ensures.ack)

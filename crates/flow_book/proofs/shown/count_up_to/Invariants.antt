@@ -1,7 +1,7 @@
 -- Those gone through are counted.
 use Rattle.std.proofs.Common.{◌≡◌, ◌≤◌, length, filter, take}
 use Rattle.flow_book.specs.Queue.{still_waits}
-use Rattle.flow_book.proofs.shown.count_waiting.Given as goal
+use Rattle.flow_book.proofs.shown.count_up_to.Given as goal
 
 abbrev pub invariant-loop-waiting : goal.invariant-loop-waiting
 invariant-loop-waiting l = record {
