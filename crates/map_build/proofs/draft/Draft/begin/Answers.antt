@@ -1,5 +1,5 @@
 -- A draft with the flows of the book, and nothing in its frame.
-use Rattle.std.proofs.Common.{false, refl, ap}
+use Rattle.std.proofs.Common.{false, refl}
 use Rattle.std.proofs.lemmas.List.{length-replicate}
 use Rattle.map_build.proofs.Begun.{none-marked}
 use Rattle.map_build.proofs.draft.Draft.begin.Goals as goal
@@ -7,9 +7,9 @@ use Rattle.map_build.proofs.draft.Draft.begin.Goals as goal
 pub returns : goal.returns
 returns c = record {
   bounded = c.requires.bounded;
-  config = ap (λ o. o.config) c.in_ok-overlay.ensures;
-  before = ap (λ o. o.before) c.in_ok-overlay.ensures;
-  flows_are = ap (λ o. o.flows) c.in_ok-overlay.ensures;
+  config = refl;
+  before = c.requires.none;
+  flows_are = refl;
   starts = refl;
   offset = refl;
   grants = refl;

@@ -19,7 +19,7 @@ put_slots-requires c =
 
 pub returns : goal.returns
 returns c = λ spots waiting are.
-    let book = c.args.book.now in
+    let book = c.args.overlay in
     let begun = c.in_ok-draft.ensures in
     let same : c.config.result.now ≡ book.config = c.config.ensures.value ∙ begun.config in
     let requests : c.req_slots-requests.result ≡ book.config.req_slots = c.req_slots-requests.ensures.value

@@ -8,7 +8,7 @@ use Rattle.map_build.proofs.draft.Draft.quiet.Goals as goal
 
 pub returns : goal.returns
 returns c =
-    let book = c.args.book.now in
+    let book = c.args.overlay in
     let begun = c.in_ok-draft.ensures in
     let same : c.config.result.now ≡ book.config = c.config.ensures.value ∙ begun.config in
     let code : c.long_iuc-iuc.result ≡ long_iuc book.config = c.long_iuc-iuc.ensures ∙ ap long_iuc same in
