@@ -232,61 +232,65 @@ impl State {
     }
 
     // The MAP of the next frame, and what it changes.
-    fn plan_next(&self, alloc: Global) -> Result<PlannedFrame, AllocError>
-        requires book_config { self.now.book.config ≡ self.now.config }
-        requires table_config { self.now.table.config ≡ self.now.config }
-        requires aligned { self.now.next % self.now.config.frame ≡ 0 }
-        requires most { self.now.next ≤ 2 ^ 61 }
-        requires started { AllByRecursion (HasStartedBy self.now.next) self.now.book.flows }
-        requires periodic { ArePeriodicOf self.now.book.flows self.now.table.placed }
-        requires channel { AreOfChannel self.now.book.flows }
-        requires waiting { MayWait (waiting_in self.now.reserves) }
-        requires stations { HaveElementSids (waiting_in self.now.reserves) }
-        ensures lawful { IfOk result (λ p. IsLawfulFrame self.now.config (next_demand self.now)
-            self.now.header (least (take self.now.config.receivers self.now.progress)) p) }
+    fn plan_next(&mut self, alloc: Global) -> Result<PlannedFrame, AllocError>
+        requires book_config { self.old.book.config ≡ self.old.config }
+        requires table_config { self.old.table.config ≡ self.old.config }
+        requires aligned { self.old.next % self.old.config.frame ≡ 0 }
+        requires most { self.old.next ≤ 2 ^ 61 }
+        requires started { AllByRecursion (HasStartedBy self.old.next) self.old.book.flows }
+        requires periodic { ArePeriodicOf self.old.book.flows self.old.table.placed }
+        requires channel { AreOfChannel self.old.book.flows }
+        requires waiting { MayWait (waiting_in self.old.reserves) }
+        requires stations { HaveElementSids (waiting_in self.old.reserves) }
+        ensures lawful { IfOk result (λ p. IsLawfulFrame self.old.config (next_demand self.old)
+            self.old.header (least (take self.old.config.receivers self.old.progress)) p) }
         ensures only { IfOk result (λ p. (n : FrameMap)
-            → IsLawfulMap self.now.config (next_demand self.now) self.now.header
-            (least (take self.now.config.receivers self.now.progress)) n → n ≡ p.map) }
+            → IsLawfulMap self.old.config (next_demand self.old) self.old.header
+            (least (take self.old.config.receivers self.old.progress)) n → n ≡ p.map) }
         ensures encodable { IfOk result (λ p. IsWellFormed p.map.wire) }
-        ensures config { IfOk result (λ p. p.overlay.config ≡ self.now.config) }
+        ensures config { IfOk result (λ p. p.overlay.config ≡ self.old.config) }
+        ensures same { self.new ≡ self.old }
     {
+        let ack = self.ack();
         if self.settles() {
-            return plan_settling(alloc, &self.book, self.header, self.next, self.ack());
+            return plan_settling(alloc, &mut self.book, self.header, self.next, ack);
         }
         let frame = self.next / u64::from(self.config.frame());
         let waiting = self.reserves.waiting();
         let waiting = &waiting[..self.reserves.waiting_count()];
         plan_with_book(
             alloc,
-            &self.book,
+            &mut self.book,
             &self.table,
             frame,
-            self.ack(),
+            ack,
             self.header,
             waiting,
         )
     }
 
     // The MAP of the next frame, with what it changes: whenever it is built.
-    pub(super) fn plan_frame(&self, alloc: Global) -> Result<PlannedFrame, AllocError>
-        requires { (now : ℕ) × (h : List Entry) × IsOpenTo self.now (Call.Build now) h }
+    pub(super) fn plan_frame(&mut self, alloc: Global) -> Result<PlannedFrame, AllocError>
+        requires { (now : ℕ) × (h : List Entry) × IsOpenTo self.old (Call.Build now) h }
         ensures fits { IfOk result (λ frame. (now : ℕ) (h : List Entry)
-            → IsOpenTo self.now (Call.Build now) h
-            → IsBuildAfter self.now.config h (build_of now frame)) }
+            → IsOpenTo self.old (Call.Build now) h
+            → IsBuildAfter self.old.config h (build_of now frame)) }
         ensures only { IfOk result (λ frame. (now : ℕ) (h : List Entry)
-            → IsOpenTo self.now (Call.Build now) h
-            → (n : FrameMap) → IsNextMap self.now.config h n → n ≡ frame.map) }
+            → IsOpenTo self.old (Call.Build now) h
+            → (n : FrameMap) → IsNextMap self.old.config h n → n ≡ frame.map) }
+        ensures same { self.new ≡ self.old }
     {
         let frame = self.plan_next(alloc)?;
         Ok(frame)
     }
 
     // The build of that MAP, with all that it fills, and the answer to be handed out.
-    pub(super) fn plan(&self, alloc: Global, now: u64) -> Result<Planned, AllocError>
-        requires { IsOpen self.now (Call.Build now) }
+    pub(super) fn plan(&mut self, alloc: Global, now: u64) -> Result<Planned, AllocError>
+        requires { IsOpen self.old (Call.Build now) }
         ensures clock { IfOk result (λ planned. planned.clock ≡ now) }
         ensures fits { IfOk result (λ planned. (h : List Entry)
-            → IsOpenTo self.now (Call.Build now) h → IsBuildAfter self.now.config h planned) }
+            → IsOpenTo self.old (Call.Build now) h → IsBuildAfter self.old.config h planned) }
+        ensures same { self.new ≡ self.old }
     {
         let frame = self.plan_frame(alloc)?;
         Ok(Planned {

@@ -16,7 +16,7 @@ commit-requires c =
     let now = c.args._now in
     let h = c.requires.open.0 in
     let opens = c.requires.open.1 in
-    (now, h, opens, c.in_ok-frame.ensures.fits now h opens)
+    rw c.plan_frame.ensures.same (now, h, opens, c.in_ok-frame.ensures.fits now h opens)
 
 pub returns-then-not-is_same_map-clause-differs : goal.returns-then-not-is_same_map-clause-differs
 returns-then-not-is_same_map-clause-differs c = λ is h opens answers.
@@ -32,7 +32,7 @@ returns-clause-follows c = λ is h opens.
     let fits = c.in_ok-frame.ensures.fits now h opens in
     let same : c.args.map.now ≡ map = c.if-not-is_same_map.ensures.same refl in
     let reply : c.commit.result ≡ Built c.args.map.now = c.commit.ensures.built ∙ ap (λ m. Built m) (sym same) in
-    let answered = c.commit.ensures.answered now h opens fits in
+    let answered = (rw c.plan_frame.ensures.same at c.commit.ensures.answered) now h opens fits in
     record {
       config = answered.config;
       answers = (map, fits.lawful, ap (λ m. Built m) same);

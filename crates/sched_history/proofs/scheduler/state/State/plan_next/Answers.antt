@@ -31,7 +31,7 @@ returns-clause-lawful c =
       c.from.ensures,
       c.frame.ensures.value,
       c.requires.book_config,
-      c.ack-2.ensures,
+      c.ack-ack.ensures,
       whole,
     ) at c.plan_with_book.ensures.lawful)
 
@@ -50,7 +50,7 @@ returns-clause-only c =
       c.from.ensures,
       c.frame.ensures.value,
       c.requires.book_config,
-      c.ack-2.ensures,
+      c.ack-ack.ensures,
       whole,
     ) at c.plan_with_book.ensures.only)
 
@@ -62,5 +62,5 @@ returns-then-settles-clause-only c =
     let only = c.plan_settling.ensures.only in
     subst (λ (b : Bool). IfOk c.plan_settling.result (λ p. (n : FrameMap) → IsLawfulMap s.config (with_head b s)
     s.header (least (take s.config.receivers s.progress)) n → n ≡ p.map)) c.if-settles.ensures
-    (rw (c.requires.book_config, c.ack.ensures) at
+    (rw (c.requires.book_config, c.ack-ack.ensures) at
     (IfOk-weaker c.plan_settling.result _ _ (λ p holds. holds spots waiting) only))
