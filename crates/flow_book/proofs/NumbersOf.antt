@@ -1,21 +1,21 @@
 -- The numbers in line of flows of which one changes, is put in or is taken out.
-use Rattle.std.proofs.Common.{◌≡◌, ◌≢◌, refl, sym, ap, ◌∙◌, subst, ℕ, zero, suc, ◌+◌, ◌<◌, ◌≤◌, ◌^◌, Bool, true, false, cond}
-use Rattle.std.proofs.Common.{List, [], ◌∷◌, map, filter, length, set, get_or, insert, remove, slice_get, option_map, Option, Some, None, arith}
+use Rattle.std.proofs.Common.{◌≡◌, ◌≢◌, refl, sym, ap, ◌∙◌, subst, ℕ, zero, suc, ◌<◌, ◌≤◌, ◌^◌, Bool, true, false, cond}
+use Rattle.std.proofs.Common.{List, [], ◌∷◌, map, filter, length, set, get_or, remove, slice_get, option_map, Option, Some, None, arith}
 use Rattle.std.specs.List.{AllByRecursion}
 use Rattle.std.proofs.lemmas.Bool.{cond_both}
 use Rattle.std.proofs.lemmas.List.{map-set}
-use Rattle.std.proofs.lemmas.Option.{slice_get_within, slice_get-get_or, slice_get_read, slice_get-map}
+use Rattle.std.proofs.lemmas.Option.{slice_get_within, slice_get_read, slice_get-map}
 use Rattle.minislots.specs.declared.config.Config.{Config}
 use Rattle.flow_book.specs.declared.flow.Flow.{Flow}
 use Rattle.flow_book.specs.Flows.{LiveFlow, granted}
 use Rattle.flow_book.specs.Entry.{live, IsBook, IsSoundFlow}
 use Rattle.flow_book.specs.Book.{Ascend}
 use Rattle.flow_book.specs.Shown.{waits, number_of, number_in_line, since}
-use Rattle.flow_book.specs.Line.{itself, numbers_of, sorted_into, sorted}
-use Rattle.flow_book.specs.Numbers.{number_where, listed, IsApart, IsLineOf, LineView, DifferByOne, HasChanged}
+use Rattle.flow_book.specs.Line.{numbers_of, sorted_into, sorted}
+use Rattle.flow_book.specs.Numbers.{number_where, listed, IsApart, DifferByOne, HasChanged}
 use Rattle.flow_book.proofs.InLine.{AreSmall, small-of}
 use Rattle.flow_book.proofs.Lines.{IsNew, put_in-either}
-use Rattle.flow_book.proofs.Queues.{all-remove, all-both, set-here}
+use Rattle.flow_book.proofs.Queues.{all-remove, set-here}
 use Rattle.flow_book.proofs.StillWaiting.{all-at}
 
 listed-cond : (b : Bool) (f : LiveFlow) (fs : List LiveFlow)

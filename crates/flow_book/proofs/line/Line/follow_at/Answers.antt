@@ -1,8 +1,7 @@
 -- The number of the flow takes the place of that before.
-use Rattle.std.proofs.Common.{◌≡◌, ◌∙◌, refl, sym, ap, Some, length, map}
+use Rattle.std.proofs.Common.{refl, length, map}
 use Rattle.std.proofs.lemmas.Option.{slice_get_read}
 use Rattle.flow_book.specs.Entry.{live}
-use Rattle.flow_book.specs.Numbers.{DifferByOne}
 use Rattle.flow_book.proofs.NumbersOf.{granted-within, differ-at}
 use Rattle.flow_book.proofs.line.Line.follow_at.Goals as goal
 

@@ -1,5 +1,5 @@
 -- The number of each that was served takes the place of that before.
-use Rattle.std.proofs.Common.{◌≡◌, ◌∙◌, sym, ap, subst, [], map, drop}
+use Rattle.std.proofs.Common.{◌≡◌, ◌∙◌, ap, subst, [], map, drop}
 use Rattle.std.proofs.lemmas.List.{drop_all}
 use Rattle.flow_book.specs.Entry.{live}
 use Rattle.flow_book.specs.Line.{sorted, numbers_of}
