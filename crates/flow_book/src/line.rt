@@ -83,11 +83,7 @@ fn put(numbers: &mut BTreeSet<u128>, number: Option<u128>) -> Result<(), AllocEr
 }
 
 // Puts the numbers of those that still wait in.
-fn put_all(
-    numbers: &mut BTreeSet<u128>,
-    part: &[Waiting],
-    flows: &Flows,
-) -> Result<(), AllocError>
+fn put_all(numbers: &mut BTreeSet<u128>, part: &[Waiting], flows: &Flows) -> Result<(), AllocError>
     ensures { OnOk result (numbers.new.keys
         ≡ all_inserted numbers.old.keys (map (number_at flows.now) (filter still_waits part.now))) }
 {

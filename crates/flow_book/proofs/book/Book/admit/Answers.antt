@@ -64,8 +64,11 @@ invariant_of-self-2 c =
       order = λ known. rw c.in_ok-insert.ensures.ok (c.make_way.ensures items c.open-flow.result known
           (rw c.in_ok-make_room.ensures (c.self.invariant.order known)) within
           (ap outstanding c.open-flow.ensures.live));
-      lined = rw (c.in_ok-insert.ensures.ok, numbers-insert c.open-flow.result (ap waits c.open-flow.ensures.live) items
-          c.place_above-place.result) c.self.invariant.lined;
+      lined = rw (
+        c.in_ok-insert.ensures.ok,
+        numbers-insert c.open-flow.result (ap waits c.open-flow.ensures.live) items
+            c.place_above-place.result,
+      ) c.self.invariant.lined;
       book = record {
         sound = rw flows (sound-with_flow config (new_flow c.args.sid c.args.spec) (map live items) none
             (new-sound config c.args.sid c.args.spec) c.self.invariant.book.sound);
