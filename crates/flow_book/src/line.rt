@@ -39,6 +39,7 @@ impl Model for Line {
 }
 
 // The number in line of a flow, where it waits.
+#[inline(never)]
 fn number_where(flow: &Flow) -> Option<u128>
     requires sum { flow.now.granted ≡ granted (live flow.now) }
     requires within { granted (live flow.now) ≤ flow.now.asked }
@@ -124,6 +125,7 @@ impl Line {
     }
 
     // Whether it is known.
+    #[inline(always)]
     pub(crate) fn is_known(&self) -> bool
         ensures { result ≡ self.now.is_known }
     {
@@ -131,6 +133,7 @@ impl Line {
     }
 
     // It is not known any more.
+    #[inline(never)]
     pub(crate) fn forget(&mut self)
         ensures known { self.new.is_known ≡ false }
         ensures empty { self.new.numbers ≡ [] }
@@ -140,6 +143,7 @@ impl Line {
     }
 
     // Where it is known one number takes the place of another. Where memory runs out it is not known any more.
+    #[inline(never)]
     pub(crate) fn follow(&mut self, before: Option<u128>, after: Option<u128>)
         ensures { (old new : List LiveFlow) → (self.old.is_known ≡ true → DifferByOne before after old new)
             → IsLineOf old self.old → IsLineOf new self.new }
@@ -154,6 +158,7 @@ impl Line {
     }
 
     // The number in line of the flow at this place, where it waits. Where the line is not known none is told.
+    #[inline(always)]
     pub(crate) fn number_at(&self, flows: &Flows, place: usize) -> Option<u128>
         requires book { (c : Config) × IsBook c flows.now }
         requires within { place < length flows.now }
@@ -167,6 +172,7 @@ impl Line {
     }
 
     // Keeps it where the flow at this place, which had this number before, has changed.
+    #[inline(always)]
     pub(crate) fn follow_at(&mut self, before: Option<u128>, flows: &Flows, place: usize)
         requires book { (c : Config) × IsBook c flows.now }
         requires within { place < length flows.now }

@@ -56,6 +56,7 @@ fn changed_of<'a>(is_long: bool, queue: &'a [Waiting], served: &'a [Waiting]) ->
 }
 
 // Makes a line that may be that of the flows with the data grants that of the flows before them.
+#[inline(always)]
 fn forget_shown(line: &mut Line, is_shown: &mut bool)
     ensures line { (before flows : List LiveFlow)
         → IsLineOf (if is_shown.old then flows else before) line.old → IsLineOf before line.new }
