@@ -6,6 +6,7 @@ pub mod SlotBoxes
 pub mod SlotSids
 pub mod Buckets
 pub mod Changes
+pub mod Collected
 pub mod FirstGrant
 pub mod Gaps
 pub mod Levels
@@ -52,6 +53,7 @@ pub mod SameEntries
 pub mod Searches
 pub mod Sums
 pub mod TakenOver
+pub mod TurnEnds
 pub mod Turns
 pub mod Unlimited
 pub mod Windows

@@ -1,9 +1,9 @@
 -- The numbers in line of the flows after a MAP, flow by flow and all at once.
 use Rattle.std.proofs.Common.{◌≡◌, ◌≢◌, refl, sym, ap, ◌∙◌, subst, ℕ, zero, suc, ◌+◌, ◌<◌, ◌^◌, inl, inr, nat_lt, cond}
-use Rattle.std.proofs.Common.{List, [], ◌∷◌, map, filter, length, set, get_or, drop, slice_get, option_map, Some, None, arith}
+use Rattle.std.proofs.Common.{List, [], ◌∷◌, map, length, set, get_or, drop, slice_get, option_map, Some, None, arith}
 use Rattle.std.specs.List.{AllByRecursion, AllZip}
 use Rattle.std.proofs.lemmas.Bool.{cases_eq}
-use Rattle.std.proofs.lemmas.List.{length-map, length-set, map-append, drop_more}
+use Rattle.std.proofs.lemmas.List.{length-map, length-set, drop_more}
 use Rattle.std.proofs.lemmas.List.Elements.{All-from_recursion, length_all_zip}
 use Rattle.std.proofs.lemmas.Option.{slice_get_within, slice_get-get_or, slice_get-map}
 use Rattle.minislots.specs.declared.config.Config.{Config}
@@ -15,14 +15,16 @@ use Rattle.flow_book.specs.Book.{Ascend}
 use Rattle.sched_calls.specs.Sids.{AscendBy}
 use Rattle.flow_book.specs.Overlay.{IsSameFlow}
 use Rattle.flow_book.specs.Pending.{number_at, waiting_in}
-use Rattle.flow_book.specs.Queue.{IsAt, IsIn, AreOnce, IsQueueIn, still_waits}
+use Rattle.flow_book.specs.Queue.{IsAt, IsIn, AreOnce, IsQueueIn}
 use Rattle.flow_book.specs.Shown.{waits}
 use Rattle.flow_book.specs.Line.{itself, sorted, numbers_of}
-use Rattle.flow_book.specs.Numbers.{DifferByOne, number_where, all_inserted}
+use Rattle.std.specs.BTreeSet.{BTreeSet, IsFromIterResult}
+use Rattle.std.specs.Ordering.{nat_cmp}
+use Rattle.flow_book.specs.Numbers.{DifferByOne, number_where}
 use Rattle.flow_book.specs.Mending.{AreServed, number_after}
 use Rattle.flow_book.proofs.InLine.{AreSmall, small-of, ascends}
 use Rattle.sched_calls.proofs.Insertion.{all-set}
-use Rattle.flow_book.proofs.Numbers.{inserted-sorted, inserted-append}
+use Rattle.flow_book.proofs.Collected.{collected}
 use Rattle.flow_book.proofs.NumbersOf.{differ-changed}
 use Rattle.flow_book.proofs.Pendings.{waiting-at, numbered, waiting-line}
 use Rattle.flow_book.proofs.Queues.{flow-at, at-within, set-here, set-other}
@@ -184,20 +186,12 @@ module _ (c : Config) (old items : List Flow) (served : List Waiting) (are : Are
           (live are-there.1) there.sid)
 
 -- the numbers of those that wait in the two parts are those of the flows after the MAP
-pub filled : (c : Config) (flows items : List Flow) (queue served : List Waiting) (ns ms : List ℕ) → IsBook c items
+pub filled : (c : Config) (flows items : List Flow) (queue served : List Waiting) (s : BTreeSet ℕ) → IsBook c items
     → IsQueueIn items queue served → AllZip IsSameFlow (map live flows) (map live items)
-    → ns ≡ all_inserted [] (map (number_at flows) (filter still_waits queue))
-    → ms ≡ all_inserted ns (map (number_at flows) (filter still_waits served))
-    → ms ≡ sorted (numbers_of (map live items))
-filled c flows items queue served ns ms book is same first then' =
-    let n = number_at flows in
-    let others = filter still_waits queue in
-    let left = filter still_waits served in
+    → IsFromIterResult nat_cmp (map (number_at flows) (waiting_in queue served)) s
+    → s.keys ≡ sorted (numbers_of (map live items))
+filled c flows items queue served s book is same made =
     let line = waiting-line c flows items book same queue served is in
-    let up : AscendBy itself (sorted (map n (waiting_in queue served))) =
+    let up : AscendBy itself (sorted (map (number_at flows) (waiting_in queue served))) =
     subst (AscendBy itself) (sym line.numbers) (ascends (map live items) line.ascending line.small) in
-    then' ∙ ap (λ l. all_inserted l (map n left)) first
-    ∙ sym (inserted-append [] (map n others) (map n left))
-    ∙ ap (all_inserted []) (sym (map-append n others left))
-    ∙ inserted-sorted [] (map n (waiting_in queue served)) up
-    ∙ line.numbers
+    collected (map (number_at flows) (waiting_in queue served)) s made up ∙ line.numbers

@@ -1,6 +1,6 @@
 -- Numbers that stand in order: one is put in or taken out.
 use Rattle.std.proofs.Common.{◌≡◌, ◌≢◌, refl, sym, ap, ◌∙◌, ℕ, Bool, true, false, cond, ◌==◌, nat_lt}
-use Rattle.std.proofs.Common.{List, [], ◌∷◌, ◌++◌, ◌<◌, arith}
+use Rattle.std.proofs.Common.{List, [], ◌∷◌, ◌<◌, arith}
 use Rattle.std.specs.List.{AllByRecursion}
 use Rattle.std.specs.Ordering.{nat_cmp, match_ordering, is_eq}
 use Rattle.std.specs.declared.cmp.Ordering.TheVariants.{Less, Equal, Greater}
@@ -11,7 +11,6 @@ use Rattle.std.proofs.lemmas.Bool.{cond_both}
 use Rattle.std.proofs.lemmas.Bool.Decides.{nat_tests}
 use Rattle.sched_calls.specs.Sids.{AscendBy, put_in}
 use Rattle.flow_book.specs.Line.{itself, sorted_into, sorted}
-use Rattle.flow_book.specs.Numbers.{all_inserted}
 use Rattle.flow_book.proofs.Lines.{IsNew, put_in-either, all-sorted_into}
 
 order-cond : (b e : Bool) (xs ys zs ws : List ℕ) → e ≡ false → zs ≡ ws
@@ -109,16 +108,3 @@ ascends-without n (m ∷ line) up =
 ascends-start : (line ns : List ℕ) → AscendBy itself (sorted_into line ns) → AscendBy itself line
 ascends-start line [] up = up
 ascends-start line (n ∷ ns) up = (ascends-without n line (ascends-start (put_in itself n line) ns up)).0
-
--- numbers that differ come in order into a set
-pub inserted-sorted : (line ns : List ℕ) → AscendBy itself (sorted_into line ns)
-    → all_inserted line ns ≡ sorted_into line ns
-inserted-sorted line [] up = refl
-inserted-sorted line (n ∷ ns) up =
-    let new = (ascends-without n line (ascends-start (put_in itself n line) ns up)).1 in
-    ap (λ l. all_inserted l ns) (insert_key-put_in n line new) ∙ inserted-sorted (put_in itself n line) ns up
-
--- some come in behind others
-pub inserted-append : (line ms ns : List ℕ) → all_inserted line (ms ++ ns) ≡ all_inserted (all_inserted line ms) ns
-inserted-append line [] ns = refl
-inserted-append line (m ∷ ms) ns = inserted-append (insert_key nat_cmp line m) ms ns

@@ -1,9 +1,7 @@
 -- The numbers in line of the flows that wait, kept from call to call.
-use Rattle.std.specs.Prelude.{◌≡◌, ◌≢◌, ℕ, Bool, true, List, [], ◌∷◌, set, slice_get, Option, None, Some}
+use Rattle.std.specs.Prelude.{◌≡◌, ◌≢◌, ℕ, Bool, true, List, ◌∷◌, set, slice_get, Option, None, Some}
 use Rattle.std.specs.Prelude.{if◌then◌else◌}
 use Rattle.std.specs.List.{AllByRecursion}
-use Rattle.std.specs.Ordering.{nat_cmp}
-use Rattle.std.specs.BTreeSet.{insert_key}
 use Rattle.flow_book.specs.declared.flow.Flow.{Flow}
 use Rattle.flow_book.specs.Flows.{LiveFlow}
 use Rattle.flow_book.specs.Entry.{live}
@@ -49,8 +47,3 @@ pub record HasChanged (place : ℕ) (is_known : Bool) (before : Option ℕ) (old
   pub sid : after.sid ≡ flow.sid
   pub is : new ≡ set old place after
   pub number : is_known ≡ true → before ≡ number_where (live flow)
-
--- numbers in order with others, each once
-abbrev pub all_inserted : List ℕ → List ℕ → List ℕ
-all_inserted ns [] = ns
-all_inserted ns (m ∷ ms) = all_inserted (insert_key nat_cmp ns m) ms

@@ -1,7 +1,9 @@
 //! The numbers in line of the flows that wait, kept from call to call.
 
-ghost use Rattle.std.specs.Prelude.{◌≡◌, ◌<◌, ◌≤◌, true, false, List, Some, ℕ, map, filter, take, slice_get, length};
+ghost use Rattle.std.specs.Prelude.{◌≡◌, ◌<◌, ◌≤◌, ◌++◌, true, false, List, Some, ℕ, map, filter, take, slice_get, length};
 ghost use Rattle.std.specs.Prelude.{[], IfOk, OnOk};
+ghost use Rattle.std.specs.BTreeSet.{IsFromIterResult};
+ghost use Rattle.std.specs.Ordering.{nat_cmp};
 ghost use Rattle.std.specs.List.{AllZip};
 ghost use Rattle.minislots.specs.declared.config.Config.{Config};
 ghost use Rattle.flow_book.specs.declared.flow.Flow.{Flow};
@@ -12,7 +14,6 @@ ghost use Rattle.flow_book.specs.Overlay.{IsSameFlow};
 ghost use Rattle.flow_book.specs.Pending.{number_at};
 ghost use Rattle.flow_book.specs.Queue.{still_waits, IsQueueIn};
 ghost use Rattle.flow_book.specs.Numbers.{IsLineOf, number_where, listed, IsApart, DifferByOne, HasChanged};
-ghost use Rattle.flow_book.specs.Numbers.{all_inserted};
 ghost use Rattle.flow_book.specs.Mending.{AreServed, number_after};
 
 use crate::flow::Flow;
@@ -83,34 +84,42 @@ fn put(numbers: &mut BTreeSet<u128>, number: Option<u128>) -> Result<(), AllocEr
     Ok(())
 }
 
-// Puts the numbers of those that still wait in.
-fn put_all(numbers: &mut BTreeSet<u128>, part: &[Waiting], flows: &Flows) -> Result<(), AllocError>
-    ensures { OnOk result (numbers.new.keys
-        ≡ all_inserted numbers.old.keys (map (number_at flows.now) (filter still_waits part.now))) }
+// Puts the numbers of those that still wait behind others.
+fn push_numbers(numbers: &mut Vec<u128>, part: &[Waiting], flows: &Flows) -> Result<(), AllocError>
+    ensures { OnOk result (numbers.new.items
+        ≡ numbers.old.items ++ map (number_at flows.now) (filter still_waits part.now)) }
 {
     for waiting in part {
         if waiting.wants > 0 {
-            let _ = numbers.insert(number_at(waiting, flows))?;
+            numbers.push(number_at(waiting, flows))?;
         }
     }
     Ok(())
 }
 
-// Puts the numbers of those of the two parts that still wait in, where none are yet.
-fn put_both(
-    numbers: &mut BTreeSet<u128>,
+// The set of these numbers.
+fn set_of(alloc: Global, numbers: Vec<u128>) -> Result<BTreeSet<u128>, AllocError>
+    ensures { IfOk result (IsFromIterResult nat_cmp numbers.items) }
+{
+    numbers.into_iter().collect(alloc)
+}
+
+// The numbers of those of the two parts that still wait, in order: they are sorted once, which takes far less than to put
+// each in its place.
+fn numbers_of(
+    alloc: Global,
     queue: &[Waiting],
     served: &[Waiting],
     flows: &Flows,
-) -> Result<(), AllocError>
-    requires { numbers.old.keys ≡ [] }
-    ensures { OnOk result ((c : Config) (items : List Flow) → IsBook c items
+) -> Result<BTreeSet<u128>, AllocError>
+    ensures { IfOk result (λ numbers. (c : Config) (items : List Flow) → IsBook c items
         → IsQueueIn items queue.now served.now → AllZip IsSameFlow (map live flows.now) (map live items)
-        → numbers.new.keys ≡ sorted (numbers_of (map live items))) }
+        → numbers.keys ≡ sorted (numbers_of (map live items))) }
 {
-    put_all(numbers, queue, flows)?;
-    put_all(numbers, served, flows)?;
-    Ok(())
+    let mut numbers = Vec::with_capacity(alloc, queue.len() + served.len())?;
+    push_numbers(&mut numbers, queue, flows)?;
+    push_numbers(&mut numbers, served, flows)?;
+    set_of(alloc, numbers)
 }
 
 impl Line {
@@ -208,7 +217,10 @@ impl Line {
             → AllZip IsSameFlow (map live flows.now) (map live items) → IsLineOf (map live items) self.new }
     {
         self.forget();
-        self.is_known = put_both(&mut self.numbers, queue, served, flows).is_ok();
+        if let Ok(numbers) = numbers_of(flows.allocator(), queue, served, flows) {
+            self.numbers = numbers;
+            self.is_known = true;
+        }
     }
 
     // The first so many numbers.

@@ -31,6 +31,15 @@ pub(crate) fn place_after(queue: &[Waiting], turn: u128) -> usize
     queue.partition_point(|waiting| waiting.turn <= turn)
 }
 
+// The same of a whole queue, which need not stand in one piece.
+fn place_in(queue: &VecDeque<Waiting>, turn: u128) -> usize
+    requires { AscendBy (λ w. w.turn) queue.now.items }
+    ensures place { result ≡ position_or_len (λ w. nat_lt turn w.turn) queue.now.items }
+    ensures within { result ≤ length queue.now.items }
+{
+    queue.partition_point(|waiting| waiting.turn <= turn)
+}
+
 // The place in the queue of the flow at this place among the flows.
 fn index_of(queue: &VecDeque<Waiting>, place: usize) -> Option<usize>
     ensures { result ≡ position (λ w. w.place == place) queue.now.items }
@@ -46,7 +55,7 @@ pub(crate) fn put_in_turn(queue: &mut VecDeque<Waiting>, waiting: Waiting) -> Re
     ensures put { OnOk result (queue.new.items ≡ put_in (λ w. w.turn) waiting queue.old.items) }
     ensures same { OnErr result (queue.new.items ≡ queue.old.items) }
 {
-    let index = place_after(queue.make_contiguous(), waiting.turn);
+    let index = place_in(queue, waiting.turn);
     queue.insert(index, waiting)?;
     Ok(())
 }

@@ -2,15 +2,10 @@
 use Rattle.std.proofs.Common.{◌≡◌, ◌≢◌, ◌==◌, sym, subst, remove, arith, position, Option, Some, None, IsSome, OnSome}
 use Rattle.std.proofs.lemmas.List.Quantifiers.{position-Some}
 use Rattle.flow_book.specs.Queue.{IsQueueAmong}
-use Rattle.flow_book.specs.Bucket.{BucketView}
+use Rattle.flow_book.proofs.TurnEnds.{nobody}
 use Rattle.flow_book.specs.declared.waiting.Waiting.{Waiting}
 use Rattle.flow_book.proofs.Queues.{taken-at, none-out, none-at}
 use Rattle.flow_book.proofs.queue.take_out.Goals as goal
-
-nobody : Waiting
-nobody =
-    let none : BucketView = record { per_slot = 0; full = 0; level = 0; since = 0 } in
-    record { turn = 0; wants = 0; place = 0; tier = 0; sustained = none }
 
 on-some : {X : Type 0} (o : Option X) (P : Type 0) → IsSome o → OnSome o P → P
 on-some (Some x) P some holds = holds
