@@ -71,6 +71,11 @@ abbrev pub IsOrderIn : Bool → List Flow → List Waiting → List Waiting → 
 IsOrderIn true items queue served = IsQueueIn items queue served
 IsOrderIn false items queue served = IsShortQueue items queue × (served ≡ [])
 
+-- a queue in the form of its length
+abbrev pub all_of : Bool → List Waiting → List Waiting → List Waiting
+all_of true few many = many
+all_of false few many = few
+
 -- those that a MAP served are some of the queue, or where many wait they stand by themselves
 abbrev pub served_of : Bool → List Waiting → List Waiting → List Waiting
 served_of true queue served = served

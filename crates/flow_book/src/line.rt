@@ -142,13 +142,14 @@ impl Line {
     }
 
     // It is not known any more.
-    #[inline(never)]
+    #[inline(always)]
     pub(crate) fn forget(&mut self)
-        ensures known { self.new.is_known ≡ false }
-        ensures empty { self.new.numbers ≡ [] }
+        ensures { self.new.is_known ≡ false }
     {
-        self.numbers.clear();
-        self.is_known = false;
+        if self.is_known {
+            self.numbers.clear();
+            self.is_known = false;
+        }
     }
 
     // Where it is known one number takes the place of another. Where memory runs out it is not known any more.

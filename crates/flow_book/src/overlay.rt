@@ -9,7 +9,7 @@ ghost use Rattle.std.specs.List.{AllByRecursion};
 ghost use Rattle.flow_book.specs.Flows.{flow_of};
 ghost use Rattle.flow_book.specs.Choice.{IsAmount, IsNextSid, HasStartedBy};
 ghost use Rattle.flow_book.specs.Entry.{live, IsBook};
-ghost use Rattle.flow_book.specs.Queue.{IsQueue, HasRoom, served_of};
+ghost use Rattle.flow_book.specs.Queue.{IsQueue, HasRoom, served_of, all_of};
 ghost use Rattle.flow_book.specs.Shown.{is_shown, ack_of};
 ghost use Rattle.flow_book.specs.Reserved.{with_grant};
 ghost use Rattle.flow_book.specs.Book.{changed};
@@ -21,7 +21,7 @@ use crate::flows::Flows;
 use crate::line::Line;
 use crate::parts::serve_first;
 use crate::shown::{Shown, show};
-use crate::taking::{drop_idle, merge, take_over};
+use crate::taking::{merge, take_over};
 use crate::tiers::{Tier, tiers_of};
 use crate::waiting::Waiting;
 use minislots::Checked;
@@ -46,6 +46,27 @@ fn room_for_served(
         return Vec::with_capacity(alloc, queue.len());
     }
     Ok(Vec::new(alloc))
+}
+
+// The queue in one of two forms, by whether it is long: a list of few moves none of them to be one slice.
+fn divided(
+    alloc: Global,
+    queue: VecDeque<Waiting>,
+    is_long: bool,
+) -> (Vec<Waiting>, VecDeque<Waiting>)
+    ensures { all_of is_long result.0.items result.1.items ≡ queue.items }
+{
+    if is_long {
+        return (Vec::new(alloc), queue);
+    }
+    (queue.into_vec(), VecDeque::new(alloc))
+}
+
+// The queue, of its two forms.
+fn all_of<'a>(is_long: bool, few: &'a [Waiting], many: &'a [Waiting]) -> &'a [Waiting]
+    ensures { result.now ≡ all_of is_long few.now many.now }
+{
+    if is_long { many } else { few }
 }
 
 // Those that a MAP served, with others that wait where those are few.
@@ -74,9 +95,11 @@ fn forget_shown(line: &mut Line, is_shown: &mut bool)
 #[derive(Drop)]
 pub struct Overlay {
     channel: Channel,
-    // The flows that waited before the MAP, by their turns. Where they are many one that it served wants nothing here,
-    // and else it has here what it still wants.
-    queue: VecDeque<Waiting>,
+    // The flows that waited before the MAP, by their turns, where they are few. One that it served has here what it still
+    // wants.
+    few: Vec<Waiting>,
+    // And where they are many. One that it served wants nothing here.
+    many: VecDeque<Waiting>,
     // Where many wait none of the queue before this place wants anything.
     first: usize,
     // Where many waited those that the MAP served, with what they still want, by their turns.
@@ -100,6 +123,7 @@ impl Model for Overlay {
 
     ghost use Rattle.std.specs.Prelude.{vec_capacity};
     ghost use Rattle.flow_book.specs.Overlay.{IsLinedOverlay};
+    ghost use Rattle.flow_book.specs.Queue.{all_of};
 
     ghost view = { λ o. record {
       config = o.channel;
@@ -108,7 +132,8 @@ impl Model for Overlay {
     } };
 
     ghost invariant = { λ o.
-        IsLinedOverlay o.channel o.before.items o.flows.items o.is_long o.queue.items o.served.items
+        IsLinedOverlay o.channel o.before.items o.flows.items o.is_long
+        (all_of o.is_long o.few.items o.many.items) o.served.items
         o.tiers.items (vec_capacity o.served) o.first o.line o.is_shown };
 }
 
@@ -134,10 +159,12 @@ impl Overlay {
         let tiers = tiers_of(alloc, queue.make_contiguous(), flows)?;
         let is_long = queue.len() > FEW;
         let served = room_for_served(alloc, &queue, is_long)?;
+        let (few, many) = divided(alloc, queue, is_long);
         let before = list_of(flows);
         Ok(Overlay {
             channel: channel.again()?,
-            queue,
+            few,
+            many,
             first: 0,
             served,
             tiers,
@@ -177,7 +204,8 @@ impl Overlay {
         let bytes = config.most_in(room);
         let room = Room { slots: room, bytes };
         let served = serve_first(
-            self.queue.make_contiguous(),
+            &mut self.few,
+            &mut self.many,
             &mut self.first,
             &mut self.served,
             &mut self.tiers,
@@ -204,7 +232,7 @@ impl Overlay {
     {
         let most = self.channel.config().pending() as usize;
         forget_shown(&mut self.line, &mut self.is_shown);
-        let queue: &[Waiting] = self.queue.make_contiguous();
+        let queue = all_of(self.is_long, &self.few, self.many.make_contiguous());
         let changed = changed_of(self.is_long, queue, &self.served);
         let shown = show(
             flows.allocator(),
@@ -228,7 +256,7 @@ impl Overlay {
         if !self.is_shown {
             self.line.forget();
         }
-        replace(&mut self.line, Line::none(*self.queue.allocator()))
+        replace(&mut self.line, Line::none(*self.few.allocator()))
     }
 
     // Puts the flows with the data grants in the place of those before, and gives the queue of those that still wait,
@@ -238,16 +266,17 @@ impl Overlay {
         ensures book { IsBook self.config flows.new × (map live flows.new ≡ self.flows) }
         ensures order { IfSome result (λ queue. IsQueue flows.new queue.items) }
     {
-        let mut queue = self.queue;
         if self.is_long {
+            let mut queue = self.many;
             take_over(flows, &self.served, &self.tiers, &self.flows);
             if merge(&mut queue, self.served).is_err() {
                 return None;
             }
             return Some(queue);
         }
-        take_over(flows, queue.make_contiguous(), &self.tiers, &self.flows);
-        drop_idle(&mut queue);
-        Some(queue)
+        let mut queue = self.few;
+        take_over(flows, &queue, &self.tiers, &self.flows);
+        queue.retain(|waiting| waiting.wants > 0);
+        Some(VecDeque::from_vec(queue))
     }
 }

@@ -12,7 +12,7 @@ ghost use Rattle.flow_book.specs.Entry.{live, IsRoom};
 ghost use Rattle.flow_book.specs.Limits.{HasBegunBy};
 ghost use Rattle.flow_book.specs.Tiers.{limits_in};
 ghost use Rattle.sched_calls.specs.Sids.{AscendBy, put_in};
-ghost use Rattle.flow_book.specs.Queue.{IsOrderIn, IsQueueIn, IsShortQueue, HasRoom, NoneWaitsBefore, still_waits};
+ghost use Rattle.flow_book.specs.Queue.{all_of, IsOrderIn, IsQueueIn, IsShortQueue, HasRoom, NoneWaitsBefore, still_waits};
 ghost use Rattle.flow_book.specs.declared.parts.Standing.TheVariants.{Queued};
 ghost use Rattle.flow_book.specs.Parts.{one_at, sooner_of, is_sooner, HasStartedIn, IsAheadOf, IsNextIn, IsPutIn, IsPutBack, IsGranted, IsServedFirst};
 
@@ -22,6 +22,7 @@ use crate::soonest::{Able, first_able, soonest, soonest_of};
 use crate::tiers::Tier;
 use crate::waiting::Waiting;
 use minislots::Checked;
+use std::collections::VecDeque;
 
 // Where one stands that waits: in the queue, or among those that the MAP served.
 #[derive(Clone, Copy)]
@@ -301,7 +302,8 @@ fn serve_long(
 // Serves the first that may be served, and puts it where it stands from now on. Where many wait none of the queue before
 // the first place wants anything.
 pub(crate) fn serve_first(
-    queue: &mut [Waiting],
+    few: &mut Vec<Waiting>,
+    many: &mut VecDeque<Waiting>,
     first: &mut usize,
     served: &mut Vec<Waiting>,
     tiers: &mut [Tier],
@@ -311,23 +313,32 @@ pub(crate) fn serve_first(
     room: Room,
 ) -> Option<Served>
     requires room { IsRoom config.now room }
-    requires passed { is_long ≡ true → NoneWaitsBefore first.old queue.old }
-    requires reserved { HasRoom is_long queue.old served.old.items (vec_capacity served.old) }
-    requires started { (items : List Flow) × IsOrderIn is_long items queue.old served.old.items
-        × HasStartedIn config.now items tiers.old queue.old served.old.items start }
-    ensures next { (items : List Flow) → IsOrderIn is_long items queue.old served.old.items
-        → HasStartedIn config.now items tiers.old queue.old served.old.items start
+    requires passed { is_long ≡ true
+        → NoneWaitsBefore first.old (all_of is_long few.old.items many.old.items) }
+    requires reserved { HasRoom is_long (all_of is_long few.old.items many.old.items) served.old.items
+        (vec_capacity served.old) }
+    requires started { (items : List Flow)
+        × IsOrderIn is_long items (all_of is_long few.old.items many.old.items) served.old.items
+        × HasStartedIn config.now items tiers.old (all_of is_long few.old.items many.old.items) served.old.items start }
+    ensures next { (items : List Flow)
+        → IsOrderIn is_long items (all_of is_long few.old.items many.old.items) served.old.items
+        → HasStartedIn config.now items tiers.old (all_of is_long few.old.items many.old.items) served.old.items start
         → MatchOption result (NoneEligible config.now (map live items) start room.slots)
-        (λ s. IsServedFirst config.now is_long items tiers.old tiers.new queue.old served.old.items
-        queue.new served.new.items start room.slots room.bytes s.sid s.bytes) }
+        (λ s. IsServedFirst config.now is_long items tiers.old tiers.new
+        (all_of is_long few.old.items many.old.items) served.old.items
+        (all_of is_long few.new.items many.new.items) served.new.items start room.slots room.bytes s.sid s.bytes) }
     ensures none { result ≡ None
-        → (queue.new ≡ queue.old) × (served.new ≡ served.old) × (tiers.new ≡ tiers.old) }
-    ensures passed { is_long ≡ true → NoneWaitsBefore first.new queue.new }
-    ensures reserved { HasRoom is_long queue.new served.new.items (vec_capacity served.new) }
+        → (all_of is_long few.new.items many.new.items ≡ all_of is_long few.old.items many.old.items)
+        × (served.new ≡ served.old) × (tiers.new ≡ tiers.old) }
+    ensures passed { is_long ≡ true
+        → NoneWaitsBefore first.new (all_of is_long few.new.items many.new.items) }
+    ensures reserved { HasRoom is_long (all_of is_long few.new.items many.new.items) served.new.items
+        (vec_capacity served.new) }
     ensures lawful { IsLawful config.now }
 {
     if is_long {
+        let queue = many.make_contiguous();
         return serve_long(queue, first, served, tiers, config, start, room);
     }
-    serve_short(queue, tiers, config, start, room)
+    serve_short(few, tiers, config, start, room)
 }

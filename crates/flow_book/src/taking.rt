@@ -74,7 +74,7 @@ fn drop_front(queue: &mut VecDeque<Waiting>, count: usize)
 }
 
 // Takes those out of a queue that wait no more.
-pub(crate) fn drop_idle(queue: &mut VecDeque<Waiting>)
+fn drop_idle(queue: &mut VecDeque<Waiting>)
     ensures { queue.new.items ≡ filter still_waits queue.old.items }
 {
     let upto = behind_last_idle(queue.make_contiguous());

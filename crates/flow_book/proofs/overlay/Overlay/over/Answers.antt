@@ -7,7 +7,7 @@ pub invariant_of-result : goal.invariant_of-result
 invariant_of-result c =
     let back =
     c.make_contiguous.ensures.writes_back c.tiers_of.new.queue (c.tiers_of.auto.queue ∙ c.make_contiguous.ensures.len) in
-    rw (back, c.in_ok-again.ensures, c.same.ensures, c.list_of-before.ensures, c.in_ok-served.ensures.none)
+    rw (c.divided-few.ensures ∙ back, c.in_ok-again.ensures, c.same.ensures, c.list_of-before.ensures, c.in_ok-served.ensures.none)
     (record {
       overlay = over-book c.args.channel.now c.args.flows.now _ c.tiers_of.new.queue c.in_ok-tiers.tiers.items _
           c.requires.book c.in_ok-tiers.ensures.queue c.in_ok-tiers.ensures.tiers (rw back at c.in_ok-served.ensures.room);

@@ -3,7 +3,7 @@ use Rattle.std.proofs.Common.{Bool, ◌≡◌, ◌⊎◌, ◌∙◌, Some, refl,
 use Rattle.std.proofs.lemmas.List.{take_at}
 use Rattle.std.specs.Option.{IsSomeAnd, IfSome}
 use Rattle.flow_book.specs.Choice.{IsNext, IsAmount, NoneEligible}
-use Rattle.flow_book.specs.Queue.{IsIn, NoneWaitsBefore, served_of}
+use Rattle.flow_book.specs.Queue.{IsIn, NoneWaitsBefore, all_of, served_of}
 use Rattle.flow_book.specs.Parts.{HasStartedIn, IsServedFirst}
 use Rattle.flow_book.specs.declared.flow.Grant.{Grant}
 use Rattle.flow_book.specs.Flows.{flow_of}
@@ -21,9 +21,9 @@ serve_first-requires-clause-started c =
     let o = c.self.invariant.overlay in
     let has =
     started-queue c.self.inside.channel c.self.inside.before.items c.self.inside.flows.items c.self.inside.is_long
-    c.self.inside.queue.items c.self.inside.served.items c.self.inside.tiers.items _ c.self.inside.first c.args.start o
+    (all_of c.self.inside.is_long c.self.inside.few.items c.self.inside.many.items) c.self.inside.served.items c.self.inside.tiers.items _ c.self.inside.first c.args.start o
     (rw (← c.self.view_is) at c.requires.started) in
-    (o.items, rw c.make_contiguous.ensures.value o.order, rw (c.make_contiguous.ensures.value, c.deref_mut.ensures.value, c.config-config.ensures) has)
+    (o.items, o.order, rw (c.deref_mut.ensures.value, c.config-config.ensures) has)
 
 pub returns-in_err-served-clause-next : goal.returns-in_err-served-clause-next
 returns-in_err-served-clause-next c =
@@ -31,36 +31,36 @@ returns-in_err-served-clause-next c =
     let config = c.self.inside.channel in
     let has =
     started-queue config c.self.inside.before.items c.self.inside.flows.items c.self.inside.is_long
-    c.self.inside.queue.items c.self.inside.served.items c.self.inside.tiers.items _ c.self.inside.first c.args.start o
+    (all_of c.self.inside.is_long c.self.inside.few.items c.self.inside.many.items) c.self.inside.served.items c.self.inside.tiers.items _ c.self.inside.first c.args.start o
     (rw (← c.self.view_is) at c.requires.started) in
-    let none = (rw (c.make_contiguous.ensures.value, c.deref_mut.ensures.value, c.config-config.ensures) at c.in_err-served.ensures.next) o.items o.order has in
+    let none = (rw (c.deref_mut.ensures.value, c.config-config.ensures) at c.in_err-served.ensures.next) o.items o.order has in
     rw (← c.self.view_is, c.from_residual.ensures)
     (subst (λ fs. NoneEligible config fs c.args.start c.args.room) o.shows none)
 
 -- all its grants have started
 has-started : (c : goal.After-forget_shown) → HasStartedIn c.self.inside.channel c.self.invariant.overlay.items
-    c.self.inside.tiers.items c.self.inside.queue.items c.self.inside.served.items c.args.start
+    c.self.inside.tiers.items (all_of c.self.inside.is_long c.self.inside.few.items c.self.inside.many.items) c.self.inside.served.items c.args.start
 has-started c =
     started-queue c.self.inside.channel c.self.inside.before.items c.self.inside.flows.items c.self.inside.is_long
-    c.self.inside.queue.items c.self.inside.served.items c.self.inside.tiers.items _ c.self.inside.first c.args.start c.self.invariant.overlay
+    (all_of c.self.inside.is_long c.self.inside.few.items c.self.inside.many.items) c.self.inside.served.items c.self.inside.tiers.items _ c.self.inside.first c.args.start c.self.invariant.overlay
     (rw (← c.self.view_is) at c.requires.started)
 
 -- the first is served
 first : (c : goal.After-forget_shown) → IsServedFirst c.self.inside.channel c.self.inside.is_long c.self.invariant.overlay.items
-    c.self.inside.tiers.items c.serve_first.new.tiers c.self.inside.queue.items c.self.inside.served.items c.serve_first.new.queue c.serve_first.new.served.items
+    c.self.inside.tiers.items c.serve_first.new.tiers (all_of c.self.inside.is_long c.self.inside.few.items c.self.inside.many.items) c.self.inside.served.items (all_of c.self.inside.is_long c.serve_first.new.few.items c.serve_first.new.many.items) c.serve_first.new.served.items
     c.args.start c.args.room c.most_in-bytes.result c.in_ok-served.served.sid c.in_ok-served.served.bytes
 first c =
-    (rw (c.make_contiguous.ensures.value, c.deref_mut.ensures.value, c.config-config.ensures) at c.in_ok-served.ensures.next) c.self.invariant.overlay.items c.self.invariant.overlay.order
+    (rw (c.deref_mut.ensures.value, c.config-config.ensures) at c.in_ok-served.ensures.next) c.self.invariant.overlay.items c.self.invariant.overlay.order
     (has-started c)
 
 -- the flow is served
 served : (c : goal.After-forget_shown) → IsServed c.self.inside.channel c.self.invariant.overlay.items c.self.inside.is_long
-    c.serve_first.new.tiers c.self.inside.queue.items c.self.inside.served.items c.serve_first.new.queue c.serve_first.new.served.items
+    c.serve_first.new.tiers (all_of c.self.inside.is_long c.self.inside.few.items c.self.inside.many.items) c.self.inside.served.items (all_of c.self.inside.is_long c.serve_first.new.few.items c.serve_first.new.many.items) c.serve_first.new.served.items
     c.args.start c.args.room c.in_ok-served.served.bytes (first c).waiting (first c).new
 served c =
     let f = first c in
     is-served c.self.inside.channel c.self.invariant.overlay.items c.self.inside.tiers.items c.serve_first.new.tiers
-    c.self.inside.queue.items c.self.inside.served.items c.serve_first.new.queue c.serve_first.new.served.items
+    (all_of c.self.inside.is_long c.self.inside.few.items c.self.inside.many.items) c.self.inside.served.items (all_of c.self.inside.is_long c.serve_first.new.few.items c.serve_first.new.many.items) c.serve_first.new.served.items
     c.args.start c.args.room c.in_ok-served.served.sid c.in_ok-served.served.bytes c.most_in-bytes.result f.at f.waiting
     f.new (rw c.config-config.ensures at c.in_ok-served.ensures.lawful) (has-started c) f.here f.next
     (rw c.config-config.ensures at c.most_in-bytes.ensures) f.granted c.self.inside.is_long
@@ -85,8 +85,8 @@ invariant_of-self-2 c =
     let config = c.self.inside.channel in
     let before = c.self.inside.before.items in
     let is_long = c.self.inside.is_long in
-    let old = served_of is_long c.self.inside.queue.items c.self.inside.served.items in
-    let queue = c.serve_first.new.queue in
+    let old = served_of is_long (all_of c.self.inside.is_long c.self.inside.few.items c.self.inside.many.items) c.self.inside.served.items in
+    let queue = (all_of c.self.inside.is_long c.serve_first.new.few.items c.serve_first.new.many.items) in
     let after = c.serve_first.new.served.items in
     let ones = served_of is_long queue after in
     let shows : map live is.grown ≡ changed is.flow.sid (with_grant config grant) c.self.inside.flows.items =
@@ -112,10 +112,7 @@ invariant_of-self-2 c =
     ∙ ap (λ sid. changed sid (with_grant config grant) c.self.inside.flows.items) (same-sid c) in
     let tiers = c.serve_first.new.tiers in
     let kept = take_at tiers (drop (length tiers) c.self.inside.tiers.items) c.self.inside.tiers.len (as-long c) in
-    let back =
-    c.make_contiguous.ensures.writes_back c.serve_first.new.queue
-    (c.serve_first.auto.queue ∙ c.make_contiguous.ensures.len) in
-    rw (items, kept, back) (record {
+    rw (items, kept) (record {
       overlay = all;
       lined = subst (λ (b : Bool). IsLineOf (if b then changed is.flow.sid (with_grant config grant) c.self.inside.flows.items
           else before) c.forget_shown.new.line) (sym c.forget_shown.ensures.shown)
@@ -154,14 +151,11 @@ invariant_of-self c =
     let o = c.self.invariant.overlay in
     let new = c.serve_first.new in
     let same = c.in_err-served.ensures.none refl in
-    let back =
-    c.make_contiguous.ensures.writes_back new.queue (c.serve_first.auto.queue ∙ c.make_contiguous.ensures.len) in
-    let queue : new.queue ≡ c.self.inside.queue.items = same.0 ∙ c.make_contiguous.ensures.value in
     let long : length new.tiers ≡ c.self.inside.tiers.len =
     omega (arith, c.serve_first.auto.tiers, ap length c.deref_mut.ensures.value, c.self.inside.tiers.ok.0) in
     let tiers = take_at new.tiers (drop (length new.tiers) c.self.inside.tiers.items) c.self.inside.tiers.len long
     ∙ same.2 ∙ c.deref_mut.ensures.value in
-    rw (back ∙ queue, same.1, tiers) (record {
+    rw (same.0, same.1, tiers) (record {
       overlay = record {
         items = o.items;
         shows = o.shows;
@@ -169,7 +163,7 @@ invariant_of-self c =
         order = o.order;
         tiered = o.tiered;
         room = o.room;
-        passed = λ many. subst (NoneWaitsBefore new.first) queue (c.serve_first.ensures.passed many);
+        passed = λ many. subst (NoneWaitsBefore new.first) same.0 (c.serve_first.ensures.passed many);
         same = o.same;
         rest = o.rest;
       };
