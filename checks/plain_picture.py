@@ -15,6 +15,9 @@ STACKED = ("request", "poll", "unsolicited", "opportunity", "data", "open", "idl
 SHOWN = ("least", "middle", "p99", "greatest")
 COUNTED = ("served", "waiting", "dropped", "replaced")
 NUMBER = r"(\d+(?:\.\d)?)"
+DELAYS = ("Delays of requests by rank, in ms: from where a request was heard to the end of the data grant that served "
+          "it.")
+LOGARITHMIC = " The axis is logarithmic."
 NO_FRAME, NO_DELAY = "No MAP was built, so there is no frame.", "No request was accepted, so there is no delay."
 
 
@@ -96,25 +99,66 @@ def time_axis(config, whole):
                   for number in ticks_to(quarters // unit)]
 
 
-def axes_of(config, whole, scale):
-    """The ticks of minislots, of time, and of tenths of a millisecond, each at its place."""
+def level(amount):
+    """How high an amount stands where each doubling is 1024 higher: evenly between two powers of two, rounded down."""
+    power = 1 << max(amount.bit_length() - 1, 0)
+    return 1024 * (power.bit_length() - 1) + 1024 * amount // power
+
+
+class DelayAxis:
+    """The axis of the delays of ranks. It ends at the tenth of a millisecond that the greatest one reaches, and is
+    logarithmic, from the least delay above 0 on, where the greatest is more than a hundred times as long."""
+
+    def __init__(self, config, delays):
+        self.ticks, most = config["ticks"], max(delays, default=0)
+        least = min((slots for slots in delays if slots), default=most)
+        self.tenths, self.start = (most * self.ticks + 15) // 16, least if most > 100 * least else None
+        # Its ends where it is logarithmic, in quarters of a microsecond.
+        self.begin, self.end = 25 * self.ticks * least, 400 * self.tenths
+
+    def is_logarithmic(self):
+        return self.start is not None
+
+    def by_level(self, quarters):
+        low, high = level(self.begin), level(self.end)
+        return ACROSS * max(level(quarters) - low, 0) // (high - low)
+
+    def place(self, slots):
+        """Where a delay stands."""
+        if self.is_logarithmic():
+            return self.by_level(25 * self.ticks * slots)
+        return ACROSS * (slots * self.ticks) // max(16 * self.tenths, 1)
+
+    def marks(self):
+        """Its ticks, in milliseconds: of a logarithmic one at 1, 2 and 5 times the powers of ten, or at the powers of
+        ten alone where it reaches further than ten thousand times its start."""
+        if not self.is_logarithmic():
+            return [(ACROSS * number // max(self.tenths, 1), f"{number // 10}.{number % 10}")
+                    for number in ticks_to(self.tenths)]
+        digits = (1,) if self.end > 10000 * self.begin else (1, 2, 5)
+        micros = [digit * 10 ** power for power in range(20) for digit in digits if digit * 10 ** power <= 10 ** 19]
+        return [(self.by_level(4 * number), str(number // 1000) if number >= 1000 else f"0.{number:03}")
+                for number in micros if self.begin <= 4 * number <= self.end]
+
+
+def axes_of(config, whole, delays):
+    """The ticks of minislots, of time, and of delays, each at its place."""
     return ([(UP * number // config["frame"], str(number)) for number in ticks_to(config["frame"])],
-            time_axis(config, whole),
-            [(ACROSS * number // max(scale, 1), f"{number // 10}.{number % 10}") for number in ticks_to(scale)])
+            time_axis(config, whole), delays.marks())
 
 
 def span_of(config, first, behind):
     return first, behind, milliseconds(config, behind - first)
 
 
-def rank_of(config, rank, tenths_of_scale):
+def rank_of(config, rank, axis):
     """A row of delays: its name, how many requests were served, wait, were dropped and, where that is told, were
     replaced, the places of its marks, and its numbers."""
     name = "polled" if rank["rank"] == "polled" else f"priority {rank['rank']}"
     counts, delay = tuple(rank[kind] for kind in COUNTED if kind in rank), rank["delay"]
     if delay is None:
         return name, counts, None, []
-    places = {kind: ACROSS * (delay[kind] * config["ticks"]) // max(16 * tenths_of_scale, 1) for kind in SHOWN}
+    places = {kind: axis.place(delay[kind]) for kind in SHOWN}
     return name, counts, places, [milliseconds(config, delay[kind]) for kind in SHOWN]
 
 
@@ -124,16 +168,15 @@ def shown(history):
     frames = list(uses_of_frames(config, history["entries"]))
     steps, whole = steps_of(config, frames), (told["to"] or 0) - (told["from"] or 0)
     all_slots = max(sum(told["use"].values()), 1)
-    most = max([rank["delay"]["greatest"] for rank in told["priorities"] if rank["delay"]], default=0)
-    scale = (most * config["ticks"] + 15) // 16
+    axis = DelayAxis(config, [rank["delay"][kind] for rank in told["priorities"] if rank["delay"] for kind in SHOWN])
     return {"width": width_of(len(frames)), "frames": told["frames"], "skips": told["skips"],
             "span": told["from"] is not None and span_of(config, told["from"], told["to"]),
             "frame": (config["frame"], milliseconds(config, config["frame"])),
-            "axes": axes_of(config, whole, scale),
+            "axes": axes_of(config, whole, axis), "logarithmic": axis.is_logarithmic(),
             "parts": {name: (2000 * told["use"][name] + all_slots) // (2 * all_slots) for name in told["use"]},
             "areas": [(name, [step.edge(name) for step in steps]) for name in reversed(stacked(config))],
             "steps": [step.told() for step in steps],
-            "ranks": [rank_of(config, rank, scale) for rank in told["priorities"]],
+            "ranks": [rank_of(config, rank, axis) for rank in told["priorities"]],
             "empty": [*([] if frames else [NO_FRAME]), *([] if told["priorities"] else [NO_DELAY])]}
 
 
@@ -200,6 +243,9 @@ def read_picture(text):
     paths = list(picture.iter(f"{SVG}path"))
     texts = [found.text for found in picture.iter(f"{SVG}text")]
     (title,) = [found for found in texts if found.startswith("Use of minislots over time.")]
+    (caption,) = [found for found in texts if found.startswith("Delays of requests by rank")]
+    if caption not in (DELAYS, DELAYS + LOGARITHMIC):
+        raise ValueError("the delays are not said to be what they are")
     span = re.search(r"Minislots (\d+) to (\d+), ([\d.]+) ms", title)
     names = ("request region", "polls", "unsolicited", "opportunities", "data grants", "open idle", "idle")
     words = dict(zip(names, STACKED))
@@ -215,7 +261,7 @@ def read_picture(text):
                               if found.startswith("Frames in a step"))),
             "frames": int(re.search(r"Frames: (\d+),", title)[1]), "skips": int(re.search(r"Skips: (\d+)\.", title)[1]),
             "span": bool(span) and (int(span[1]), int(span[2]), span[3]),
-            "frame": frame_in(title), "axes": axes_in(text),
+            "frame": frame_in(title), "axes": axes_in(text), "logarithmic": caption.endswith(LOGARITHMIC),
             "parts": {words[key[1]]: tenths(key[2]) for key in keys if key},
             "areas": [area_in(path) for path in paths if "area" in path.get("class", "").split()],
             "steps": [step_in(path) for path in paths if path.get("class") == "step"],

@@ -16,6 +16,8 @@ pub enum AuditForm {
 pub enum JournalForm {
     /// The line of the verdict.
     Line,
+    /// That line, and words on the first entry that is not lawful.
+    Explained,
     /// The verdict as JSON.
     Json,
 }

@@ -6,12 +6,13 @@ ghost use Rattle.text_stream.specs.RunFault.{TellsFailedRead, TellsFailedWrite, 
 ghost use Rattle.audit_command.specs.JournalAudit.{AuditedJournal, StopsJournalAudit};
 ghost use Rattle.audit_command.specs.JournalAudit.{legal_journal_text, illegal_journal_text};
 
+use crate::explained_audit::explain_last;
 use crate::form::JournalForm;
 use crate::json::{put_illegal_json, put_legal_journal_json};
 use journal_entries::{Judged, judge_journal};
 use sched_lines::put_named;
 use std::alloc::Global;
-use text_stream::{RunFault, Sink, Source, TextFault};
+use text_stream::{RunFault, Sink, Source, TextFault, put};
 
 /// How the audit of a journal ends.
 #[derive(Clone, Copy, Debug, PartialEq, Eq)]
@@ -36,7 +37,7 @@ fn put_legal<W: Sink>(
         (legal_journal_text form entries torn) result }
 {
     match form {
-        JournalForm::Line => put_named(writer, b"legal", entries),
+        JournalForm::Line | JournalForm::Explained => put_named(writer, b"legal", entries),
         JournalForm::Json => put_legal_journal_json(writer, entries, torn),
     }
 }
@@ -47,14 +48,15 @@ fn put_illegal<W: Sink>(writer: &mut W, form: JournalForm, index: u64) -> Result
         (illegal_journal_text form index) result }
 {
     match form {
-        JournalForm::Line => put_named(writer, b"illegal", index),
+        JournalForm::Line | JournalForm::Explained => put_named(writer, b"illegal", index),
         JournalForm::Json => put_illegal_json(writer, index),
     }
 }
 
 /// Reads a journal, of any length, and audits it in the memory of a scheduler's state and of one line. Writes `legal`
 /// and the number of its entries, or `illegal` and the first entry, counted from 0, whose reply the scheduler may not
-/// give after the entries before it; or the same in JSON, of a legal one with the bytes behind its last newline.
+/// give after the entries before it; or the same in JSON, of a legal one with the bytes behind its last newline. Where
+/// words are asked for they stand behind the line of an illegal journal, as [`run_audit`](crate::run_audit) writes them.
 /// Nothing is written where a line is bad, nor before another fault than one of output.
 pub fn run_audit_journal<R: Source, W: Sink>(
     alloc: Global,
@@ -62,7 +64,8 @@ pub fn run_audit_journal<R: Source, W: Sink>(
     writer: &mut W,
     form: JournalForm,
 ) -> Result<JournalEnd, RunFault>
-    // What was written is the line of the verdict on the journal that was read, and nothing else.
+    // What was written is the line of the verdict on the journal that was read, with words behind it where they are
+    // asked for and it is illegal, and nothing else.
     ensures ok { IfOk result (AuditedJournal form (R.remaining reader.old) (R.remaining reader.new)
         (W.contents writer.old) (W.contents writer.new)) }
 
@@ -82,8 +85,12 @@ pub fn run_audit_journal<R: Source, W: Sink>(
             put_legal(writer, form, auditor.taken(), torn)?;
             Ok(JournalEnd::Legal(torn))
         }
-        Judged::Illegal(index) => {
+        Judged::Illegal(index, entries) => {
+            let Ok(words) = explain_last(alloc, form, index, entries) else {
+                return Err(RunFault::Text(TextFault::Memory));
+            };
             put_illegal(writer, form, index)?;
+            put(writer, words.as_bytes())?;
             Ok(JournalEnd::Illegal)
         }
         Judged::Bad(line) => Ok(JournalEnd::Bad(line)),

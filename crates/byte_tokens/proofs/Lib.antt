@@ -1,3 +1,4 @@
 pub mod Taken
 pub mod Bytes
 pub mod Digits
+pub mod Lanes

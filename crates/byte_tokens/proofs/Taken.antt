@@ -15,7 +15,7 @@ use Rattle.byte_tokens.specs.declared.between.Before.{Before}
 use Rattle.byte_tokens.specs.declared.between.Before.TheVariants.{Opening, Value, Comma}
 use Rattle.byte_tokens.specs.Left.{tokens_from, begins_at, closes_at, IsEnd, IsSpace, EndsValue}
 use Rattle.byte_tokens.specs.Listed.{number_tokens}
-use Rattle.byte_tokens.specs.Spelled.{spelled_key, spelled_text}
+use Rattle.byte_tokens.specs.Spelled.{spelled_key, spelled_text, spelled_run}
 
 impossible : {P : Type 0} → false ≡ true → P
 impossible e = absurd (true≢false (sym e))
@@ -148,6 +148,25 @@ module _ (b : Before) (may : begins_at b ≡ true) (t r : List ℕ) where
   number_left n fits is ends =
       number_first b (decimal n) (lex between r) may t
       (ap (lex between) is ∙ lex-number (decimal n) r (IsNumber-decimal n fits) ends.0)
+
+-- a key, the text under it and the key behind that
+pub run_left : (b : Before) → begins_at b ≡ true → (t r name content next : List ℕ) → escape name ≡ name
+    → escape content ≡ content → escape next ≡ next → t ≡ spelled_run name content next ++ r
+    → tokens_from b t ≡ key name ∷ string content ∷ key next ∷ tokens_from Opening r
+run_left b may t r name content next plain_name plain_content plain_next is =
+    let r3 = spelled_key next ++ r in
+    let r2 = 44 ∷ r3 in
+    let r1 = spelled_text content ++ r2 in
+    let whole : t ≡ spelled_key name ++ r1 =
+    is ∙ append_assoc (spelled_key name) (spelled_text content ++ 44 ∷ spelled_key next) r
+    ∙ ap (λ l. spelled_key name ++ l) (append_assoc (spelled_text content) (44 ∷ spelled_key next) r) in
+    let named = key_left b may t r1 name (58 ∷ r1) plain_name (key_spelled t (spelled_key name) name r1 refl whole)
+    refl in
+    let said = text_left Opening refl r1 r2 content plain_content
+    (text_spelled r1 (spelled_text content) content r2 refl refl) (ends_value r2 r3 44 (inl refl) refl) in
+    let behind = key_left Comma refl r3 r next (58 ∷ r) plain_next
+    (key_spelled r3 (spelled_key next) next r refl refl) refl in
+    named ∙ ap (λ l. key name ∷ l) (said ∙ ap (λ l. string content ∷ l) (sym (comma_passed r2 r3 refl) ∙ behind))
 
 -- where no lexeme is left, no token is
 pub none_left : (b : Before) → closes_at b ≡ true → (t : List ℕ) → lex between t ≡ [] → tokens_from b t ≡ []

@@ -9,6 +9,10 @@ spelled_text content = 34 ∷ (content ++ (34 ∷ []))
 abbrev pub spelled_key : List ℕ → List ℕ
 spelled_key name = 34 ∷ (name ++ (34 ∷ 58 ∷ []))
 
+-- a key, the text under it and the key behind that, with a comma between them and nothing else
+abbrev pub spelled_run : List ℕ → List ℕ → List ℕ → List ℕ
+spelled_run name content next = spelled_key name ++ (spelled_text content ++ 44 ∷ spelled_key next)
+
 -- the digits between two places, where they are few, are those of the number
 abbrev pub Spells : List ℕ → ℕ → ℕ → ℕ → Type 0
 Spells text from at n = (from < at) × (at ≤ length text)

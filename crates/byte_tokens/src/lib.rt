@@ -3,10 +3,12 @@
 #![tactic(auto)]
 
 mod between;
+mod blocks;
 mod hexadecimal;
 mod listed;
 mod numbers;
 mod quick;
+mod short_numbers;
 mod spelled;
 
 pub use quick::Quick;

@@ -12,8 +12,8 @@ const MOST: u64 = 1_844_674_407_370_955_160;
 // How many digits fit, whatever they are.
 const DIGITS: usize = 19;
 
-// Whether a byte is a digit.
-fn is_digit(c: u8) -> bool
+/// Whether a byte is a digit.
+pub(crate) fn is_digit(c: u8) -> bool
     ensures { IsTrue result → (48 ≤ c) × (c ≤ 57) }
 {
     c >= b'0' && c <= b'9'
@@ -50,9 +50,9 @@ fn four_digits(text: &[u8], at: usize) -> bool
     is_digit(text[at]) & is_digit(text[at + 1]) & is_digit(text[at + 2]) & is_digit(text[at + 3])
 }
 
-// A number with one digit more.
+/// A number with one digit more.
 #[inline(always)]
-fn put_digit(text: &[u8], from: usize, at: usize, number: u64) -> u64
+pub(crate) fn put_digit(text: &[u8], from: usize, at: usize, number: u64) -> u64
     requires so_far { Spells text.now from at number }
     requires few { at + 1 - from ≤ 19 }
     requires within { at < length text.now }

@@ -13,6 +13,8 @@ ghost use Rattle.byte_tokens.specs.Left.{tokens_from, begins_at, closes_at, Ends
 ghost use Rattle.byte_tokens.specs.Listed.{number_tokens};
 ghost use Rattle.byte_tokens.specs.Spelled.{spelled_key, spelled_text};
 
+mod runs;
+
 use super::between::{Before, behind_gap, behind_space, behind_value, ended_value};
 use super::hexadecimal::hex_at;
 use super::listed::numbers_at;
@@ -309,6 +311,12 @@ impl<'a> Quick<'a> {
     /// The byte behind the next one: where a quote stands next, the first of what is quoted. No clause says so.
     pub fn letter(&self) -> u8 {
         byte_at(self.text.as_bytes(), self.at + 1)
+    }
+
+    /// The byte so far behind the next one. No clause says so.
+    #[inline(always)]
+    pub fn byte_behind(&self, count: u8) -> u8 {
+        byte_at(self.text.as_bytes(), self.at + count as usize)
     }
 
     /// Whether no token is left.

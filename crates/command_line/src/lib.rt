@@ -200,7 +200,7 @@ fn audit_command<'a>(alloc: Global) -> Result<Command<'a>, AllocError>
         (codes "explain" ∷ codes "json" ∷ codes "journal" ∷ codes "FILE" ∷ []) []) }
 {
     let about = "Reads a history from standard input and prints whether it is legal";
-    let journal = journal_option(alloc).conflicts_with("explain")?;
+    let journal = journal_option(alloc);
     let explain = flag(
         alloc,
         "explain",

@@ -8,6 +8,7 @@ pub mod Buckets
 pub mod Changes
 pub mod Collected
 pub mod FirstGrant
+pub mod Fronts
 pub mod Gaps
 pub mod Levels
 pub mod Lines

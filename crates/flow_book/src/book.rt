@@ -21,15 +21,14 @@ use crate::flows::Flows;
 use crate::line::Line;
 use crate::overlay::Overlay;
 use crate::queue::{copy_of, follow, leave, make_room, make_way, queue_of, take_or_make};
+use crate::queue_list::Queue;
 use crate::shown::Shown;
 use crate::under::under_at;
 use crate::waiting::Waiting;
 use minislots::Checked;
 use sched_calls::FlowSpec;
 use std::alloc::{AllocError, Global};
-use std::collections::VecDeque;
 use std::marker::Model;
-use std::mem::replace;
 
 /// The live flows of one channel, in order of SID. Each has its parameters, the bytes that it asked
 /// and its data grants, and room for so many more grants.
@@ -38,7 +37,7 @@ pub struct Book {
     channel: Channel,
     flows: Flows,
     // The flows that wait, by their turns, where they are known.
-    queue: VecDeque<Waiting>,
+    queue: Queue,
     is_queued: bool,
     // The numbers in line of the flows that wait, where they are known.
     line: Line,
@@ -59,7 +58,7 @@ impl Model for Book {
       rooms = map room_in b.flows;
     } };
 
-    ghost invariant = { λ b. IsQueuedBook b.channel b.flows b.queue.items b.is_queued b.line };
+    ghost invariant = { λ b. IsQueuedBook b.channel b.flows b.queue b.is_queued b.line };
 }
 
 // The place of the live flow with this SID.
@@ -83,9 +82,9 @@ impl Book {
         Ok(Book {
             channel: Channel::of(alloc, config)?,
             flows: Flows::new(alloc),
-            queue: VecDeque::new(alloc),
+            queue: Queue::new(alloc),
             is_queued: true,
-            line: Line::none(alloc),
+            line: Line::none(),
         })
     }
 
@@ -336,7 +335,7 @@ impl Book {
         } else {
             queue_of(alloc, &self.flows)?
         };
-        Overlay::over(&self.channel, &self.flows, queue, Line::none(alloc))
+        Overlay::over(&self.channel, &self.flows, queue, Line::none())
     }
 
     /// The same as [`Book::overlay`], for a MAP that the book is to take in: what it keeps of the flows that wait goes
@@ -350,8 +349,7 @@ impl Book {
         ensures same { self.new ≡ self.old }
     {
         let queue = take_or_make(&mut self.queue, &mut self.is_queued, &self.flows)?;
-        let line = replace(&mut self.line, Line::none(self.flows.allocator()));
-        Overlay::over(&self.channel, &self.flows, queue, line)
+        Overlay::over(&self.channel, &self.flows, queue, self.line.take())
     }
 
     /// The flows that the MAP of an overlay shows by pending grants, in order of SID, and its acknowledge time, where all
@@ -379,7 +377,7 @@ impl Book {
         self.line = overlay.take_line();
         let queue = overlay.put_into(&mut self.flows);
         self.is_queued = queue.is_some();
-        self.queue = queue.unwrap_or(VecDeque::new(self.flows.allocator()));
+        self.queue = queue.unwrap_or(Queue::new(self.flows.allocator()));
     }
 
     // The live flow with this SID.

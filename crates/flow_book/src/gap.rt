@@ -7,8 +7,6 @@ ghost use Rattle.sched_calls.specs.Sids.{AscendBy, put_in};
 ghost use Rattle.flow_book.specs.Gap.{around, all_put_in};
 
 use crate::waiting::Waiting;
-use std::alloc::AllocError;
-use std::collections::VecDeque;
 
 // Puts one into a queue with a gap of so many places from the first on: of an earlier turn than those behind the gap. It
 // goes to the last place of the gap, behind which those before the gap of later turns have moved. Answers where the gap
@@ -34,7 +32,7 @@ fn put_behind(queue: &mut [Waiting], first: usize, gap: usize, one: Waiting) -> 
 }
 
 // Puts these into a queue that ends with a gap of as many places.
-fn fill_gap(queue: &mut [Waiting], first: usize, ones: &[Waiting])
+pub(crate) fn fill_gap(queue: &mut [Waiting], first: usize, ones: &[Waiting])
     requires within { first + length ones.now ≡ length queue.old }
     requires ascending { AscendBy (λ w. w.turn) (take first queue.old) }
     requires ones { AscendBy (λ w. w.turn) ones.now }
@@ -45,26 +43,4 @@ fn fill_gap(queue: &mut [Waiting], first: usize, ones: &[Waiting])
     for index in (0..ones.len()).rev() {
         first = put_behind(queue, first, index + 1, ones[index]);
     }
-}
-
-// Puts these behind a queue.
-fn push_all(queue: &mut VecDeque<Waiting>, ones: &[Waiting]) -> Result<(), AllocError>
-    ensures { OnOk result (queue.new.items ≡ queue.old.items ++ ones.now) }
-{
-    for one in ones {
-        queue.push_back(*one)?;
-    }
-    Ok(())
-}
-
-// Puts these into a queue, each in its turn.
-pub(crate) fn put_all(queue: &mut VecDeque<Waiting>, ones: &[Waiting]) -> Result<(), AllocError>
-    requires ascending { AscendBy (λ w. w.turn) queue.old.items }
-    requires ones { AscendBy (λ w. w.turn) ones.now }
-    ensures { OnOk result (queue.new.items ≡ all_put_in ones.now queue.old.items) }
-{
-    let first = queue.len();
-    push_all(queue, ones)?;
-    fill_gap(queue.make_contiguous(), first, ones);
-    Ok(())
 }

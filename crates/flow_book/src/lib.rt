@@ -17,6 +17,7 @@ mod overlay;
 mod parts;
 mod period;
 mod queue;
+mod queue_list;
 mod shown;
 mod soonest;
 mod taking;

@@ -24,19 +24,23 @@ use std::alloc::{AllocError, Global};
 use std::collections::BTreeSet;
 use std::marker::Model;
 
-/// The numbers in line of the flows that wait, in order, where they are known.
+/// The numbers in line of the flows that wait, in order, where they are known. They stand apart, since most often they are
+/// not.
 #[derive(Drop)]
 pub(crate) struct Line {
-    numbers: BTreeSet<u128>,
-    is_known: bool,
+    numbers: Option<Box<BTreeSet<u128>>>,
 }
 
 impl Model for Line {
+    ghost use Rattle.std.specs.Prelude.{[], is_some, option_map, unwrap_or};
     ghost use Rattle.flow_book.specs.Numbers.{LineView};
 
     ghost Value = { LineView };
 
-    ghost view = { λ l. record { numbers = l.numbers.keys; is_known = l.is_known } };
+    ghost view = { λ l. record {
+      numbers = unwrap_or (option_map (λ b. b.value.keys) l.numbers) [];
+      is_known = is_some l.numbers;
+    } };
 }
 
 // The number in line of a flow, where it waits.
@@ -124,12 +128,20 @@ fn numbers_of(
 
 impl Line {
     // One that is not known.
-    pub(crate) fn none(alloc: Global) -> Line
+    pub(crate) fn none() -> Line
         ensures { result.is_known ≡ false }
     {
+        Line { numbers: None }
+    }
+
+    // The line, which is not known here any more.
+    #[inline(always)]
+    pub(crate) fn take(&mut self) -> Line
+        ensures taken { result ≡ self.old }
+        ensures left { self.new.is_known ≡ false }
+    {
         Line {
-            numbers: BTreeSet::new(alloc),
-            is_known: false,
+            numbers: self.numbers.take(),
         }
     }
 
@@ -138,7 +150,7 @@ impl Line {
     pub(crate) fn is_known(&self) -> bool
         ensures { result ≡ self.now.is_known }
     {
-        self.is_known
+        self.numbers.is_some()
     }
 
     // It is not known any more.
@@ -146,10 +158,7 @@ impl Line {
     pub(crate) fn forget(&mut self)
         ensures { self.new.is_known ≡ false }
     {
-        if self.is_known {
-            self.numbers.clear();
-            self.is_known = false;
-        }
+        self.numbers = None;
     }
 
     // Where it is known one number takes the place of another. Where memory runs out it is not known any more.
@@ -158,12 +167,15 @@ impl Line {
         ensures { (old new : List LiveFlow) → (self.old.is_known ≡ true → DifferByOne before after old new)
             → IsLineOf old self.old → IsLineOf new self.new }
     {
-        if !self.is_known || before == after {
+        let Some(numbers) = &mut self.numbers else {
+            return;
+        };
+        if before == after {
             return;
         }
-        take_out(&mut self.numbers, before);
-        if put(&mut self.numbers, after).is_err() {
-            self.forget();
+        take_out(numbers, before);
+        if put(numbers, after).is_err() {
+            self.numbers = None;
         }
     }
 
@@ -175,7 +187,7 @@ impl Line {
         ensures { self.now.is_known ≡ true → (f : Flow) → slice_get flows.now place ≡ Some f
             → result ≡ number_where (live f) }
     {
-        if !self.is_known {
+        if !self.is_known() {
             return None;
         }
         number_where(flows.at(place))
@@ -190,7 +202,7 @@ impl Line {
             → HasChanged place self.old.is_known before old flows.now
             → IsLineOf (map live old) self.old → IsLineOf (map live flows.now) self.new }
     {
-        if self.is_known {
+        if self.is_known() {
             let after = number_where(flows.at(place));
             self.follow(before, after);
         }
@@ -203,7 +215,7 @@ impl Line {
         ensures { (c : Config) (items : List Flow) → AreServed c flows.now items served.now
             → IsLineOf (map live flows.now) self.old → IsLineOf (map live items) self.new }
     {
-        if self.is_known {
+        if self.is_known() {
             for waiting in served {
                 let before = self.number_at(flows, waiting.place as usize);
                 self.follow(before, number_after(waiting, flows));
@@ -217,17 +229,20 @@ impl Line {
         ensures { (c : Config) (items : List Flow) → IsBook c items → IsQueueIn items queue.now served.now
             → AllZip IsSameFlow (map live flows.now) (map live items) → IsLineOf (map live items) self.new }
     {
-        self.forget();
-        if let Ok(numbers) = numbers_of(flows.allocator(), queue, served, flows) {
-            self.numbers = numbers;
-            self.is_known = true;
-        }
+        let alloc = flows.allocator();
+        self.numbers = match numbers_of(alloc, queue, served, flows) {
+            Ok(numbers) => Box::new(alloc, numbers).ok(),
+            Err(_) => None,
+        };
     }
 
     // The first so many numbers.
     pub(crate) fn first(&self, alloc: Global, most: usize) -> Result<Vec<u128>, AllocError>
         ensures { IfOk result (λ first. first.items ≡ take most self.now.numbers) }
     {
-        self.numbers.iter().take(most).copied().collect(alloc)
+        match &self.numbers {
+            Some(numbers) => numbers.iter().take(most).copied().collect(alloc),
+            None => Ok(Vec::new(alloc)),
+        }
     }
 }

@@ -20,27 +20,22 @@ use crate::flow_list::{FlowList, list_of};
 use crate::flows::Flows;
 use crate::line::Line;
 use crate::parts::serve_first;
+use crate::queue_list::Queue;
 use crate::shown::{Shown, show};
 use crate::taking::{merge, take_over};
-use crate::tiers::{Tier, tiers_of};
+use crate::tiers::Tier;
 use crate::waiting::Waiting;
 use minislots::Checked;
 use std::alloc::{AllocError, Global};
-use std::collections::VecDeque;
 use std::marker::Model;
-use std::mem::replace;
 
 // Of so many flows that wait one that is served stays in their queue: it moves back by few steps, and takes no memory.
 const FEW: usize = 32;
 
 // Memory for as many served flows as wait where they are many, and else none.
-fn room_for_served(
-    alloc: Global,
-    queue: &VecDeque<Waiting>,
-    is_long: bool,
-) -> Result<Vec<Waiting>, AllocError>
+fn room_for_served(alloc: Global, queue: &Queue, is_long: bool) -> Result<Vec<Waiting>, AllocError>
     ensures none { IfOk result (λ served. served.items ≡ []) }
-    ensures room { IfOk result (λ served. HasRoom is_long queue.now.items [] (vec_capacity served)) }
+    ensures room { IfOk result (λ served. HasRoom is_long queue.now [] (vec_capacity served)) }
 {
     if is_long {
         return Vec::with_capacity(alloc, queue.len());
@@ -49,17 +44,13 @@ fn room_for_served(
 }
 
 // The queue in one of two forms, by whether it is long: a list of few moves none of them to be one slice.
-fn divided(
-    alloc: Global,
-    queue: VecDeque<Waiting>,
-    is_long: bool,
-) -> (Vec<Waiting>, VecDeque<Waiting>)
-    ensures { all_of is_long result.0.items result.1.items ≡ queue.items }
+fn divided(alloc: Global, queue: Queue, is_long: bool) -> (Vec<Waiting>, Queue)
+    ensures { all_of is_long result.0.items result.1 ≡ queue }
 {
     if is_long {
         return (Vec::new(alloc), queue);
     }
-    (queue.into_vec(), VecDeque::new(alloc))
+    (queue.into_list(), Queue::new(alloc))
 }
 
 // The queue, of its two forms.
@@ -99,7 +90,7 @@ pub struct Overlay {
     // wants.
     few: Vec<Waiting>,
     // And where they are many. One that it served wants nothing here.
-    many: VecDeque<Waiting>,
+    many: Queue,
     // Where many wait none of the queue before this place wants anything.
     first: usize,
     // Where many waited those that the MAP served, with what they still want, by their turns.
@@ -133,7 +124,7 @@ impl Model for Overlay {
 
     ghost invariant = { λ o.
         IsLinedOverlay o.channel o.before.items o.flows.items o.is_long
-        (all_of o.is_long o.few.items o.many.items) o.served.items
+        (all_of o.is_long o.few.items o.many) o.served.items
         o.tiers.items (vec_capacity o.served) o.first o.line o.is_shown };
 }
 
@@ -142,11 +133,11 @@ impl Overlay {
     pub(crate) fn over(
         channel: &Channel,
         flows: &Flows,
-        queue: VecDeque<Waiting>,
+        queue: Queue,
         line: Line,
     ) -> Result<Overlay, AllocError>
         requires book { IsBook channel.now flows.now }
-        requires queue { IsQueue flows.now queue.items }
+        requires queue { IsQueue flows.now queue }
         requires line { IsLineOf (map live flows.now) line }
         ensures { IfOk result (λ overlay. overlay ≡ record {
           config = channel.now;
@@ -156,7 +147,7 @@ impl Overlay {
     {
         let mut queue = queue;
         let alloc = flows.allocator();
-        let tiers = tiers_of(alloc, queue.make_contiguous(), flows)?;
+        let tiers = queue.tiers(alloc, flows)?;
         let is_long = queue.len() > FEW;
         let served = room_for_served(alloc, &queue, is_long)?;
         let (few, many) = divided(alloc, queue, is_long);
@@ -232,7 +223,7 @@ impl Overlay {
     {
         let most = self.channel.config().pending() as usize;
         forget_shown(&mut self.line, &mut self.is_shown);
-        let queue = all_of(self.is_long, &self.few, self.many.make_contiguous());
+        let queue = all_of(self.is_long, &self.few, self.many.all());
         let changed = changed_of(self.is_long, queue, &self.served);
         let shown = show(
             flows.allocator(),
@@ -256,15 +247,15 @@ impl Overlay {
         if !self.is_shown {
             self.line.forget();
         }
-        replace(&mut self.line, Line::none(*self.few.allocator()))
+        self.line.take()
     }
 
     // Puts the flows with the data grants in the place of those before, and gives the queue of those that still wait,
     // if memory does not run out for it.
-    pub(crate) fn put_into(self, flows: &mut Flows) -> Option<VecDeque<Waiting>>
+    pub(crate) fn put_into(self, flows: &mut Flows) -> Option<Queue>
         requires { IsBook self.config flows.old × (map live flows.old ≡ self.before) }
         ensures book { IsBook self.config flows.new × (map live flows.new ≡ self.flows) }
-        ensures order { IfSome result (λ queue. IsQueue flows.new queue.items) }
+        ensures order { IfSome result (λ queue. IsQueue flows.new queue) }
     {
         if self.is_long {
             let mut queue = self.many;
@@ -277,6 +268,6 @@ impl Overlay {
         let mut queue = self.few;
         take_over(flows, &queue, &self.tiers, &self.flows);
         queue.retain(|waiting| waiting.wants > 0);
-        Some(VecDeque::from_vec(queue))
+        Some(Queue::of(queue))
     }
 }

@@ -18,11 +18,11 @@ ghost use Rattle.flow_book.specs.Parts.{one_at, sooner_of, is_sooner, HasStarted
 
 use crate::flow::{Room, Served};
 use crate::queue::{move_back, place_after, put_on};
+use crate::queue_list::Queue;
 use crate::soonest::{Able, first_able, soonest, soonest_of};
 use crate::tiers::Tier;
 use crate::waiting::Waiting;
 use minislots::Checked;
-use std::collections::VecDeque;
 
 // Where one stands that waits: in the queue, or among those that the MAP served.
 #[derive(Clone, Copy)]
@@ -128,7 +128,7 @@ fn put_reserved(served: &mut Vec<Waiting>, waiting: Waiting)
 
 // Puts the one at this place in the queue, which is served and whose turn is no earlier than before, among those served:
 // in the queue it wants nothing any more.
-fn put_queued(queue: &mut [Waiting], served: &mut Vec<Waiting>, index: usize, waiting: Waiting)
+fn put_queued(queue: &mut Queue, served: &mut Vec<Waiting>, index: usize, waiting: Waiting)
     requires order { (items : List Flow) × IsQueueIn items queue.old served.old.items }
     requires here { (w : Waiting) × (slice_get queue.old index ≡ Some w) × (still_waits w ≡ true)
         × (w.turn ≤ waiting.turn) }
@@ -141,16 +141,11 @@ fn put_queued(queue: &mut [Waiting], served: &mut Vec<Waiting>, index: usize, wa
     ensures room { HasRoom true queue.new served.new.items (vec_capacity served.new) }
 {
     put_reserved(served, waiting);
-    queue[index].wants = 0;
+    queue.make_idle(index);
 }
 
 // Puts the one that stands there, which is served and whose turn is no earlier than before, among those served.
-fn put_served(
-    queue: &mut [Waiting],
-    served: &mut Vec<Waiting>,
-    standing: Standing,
-    waiting: Waiting,
-)
+fn put_served(queue: &mut Queue, served: &mut Vec<Waiting>, standing: Standing, waiting: Waiting)
     requires order { (items : List Flow) × IsQueueIn items queue.old served.old.items }
     requires here { (w : Waiting) × (one_at standing queue.old served.old.items ≡ Some w)
         × (still_waits w ≡ true) × (w.turn ≤ waiting.turn) }
@@ -268,7 +263,7 @@ fn serve_short(
 // Serves the first that may be served where many wait. None of the queue before the first place wants anything.
 #[inline(never)]
 fn serve_long(
-    queue: &mut [Waiting],
+    queue: &mut Queue,
     first: &mut usize,
     served: &mut Vec<Waiting>,
     tiers: &mut [Tier],
@@ -291,11 +286,11 @@ fn serve_long(
     ensures reserved { HasRoom true queue.new served.new.items (vec_capacity served.new) }
     ensures lawful { IsLawful config.now }
 {
-    let standing = first_of(queue, *first, served, tiers, config, start, room)?;
-    let mut waiting = one_at(queue, served, standing);
+    let standing = first_of(queue.all(), *first, served, tiers, config, start, room)?;
+    let mut waiting = one_at(queue.all(), served, standing);
     let granted = serve_one(&mut waiting, tiers, config.quantum(), start, room.bytes);
     put_served(queue, served, standing, waiting);
-    *first = first_waiting(queue, *first);
+    *first = first_waiting(queue.all(), *first);
     Some(granted)
 }
 
@@ -303,7 +298,7 @@ fn serve_long(
 // the first place wants anything.
 pub(crate) fn serve_first(
     few: &mut Vec<Waiting>,
-    many: &mut VecDeque<Waiting>,
+    many: &mut Queue,
     first: &mut usize,
     served: &mut Vec<Waiting>,
     tiers: &mut [Tier],
@@ -314,30 +309,30 @@ pub(crate) fn serve_first(
 ) -> Option<Served>
     requires room { IsRoom config.now room }
     requires passed { is_long ≡ true
-        → NoneWaitsBefore first.old (all_of is_long few.old.items many.old.items) }
-    requires reserved { HasRoom is_long (all_of is_long few.old.items many.old.items) served.old.items
+        → NoneWaitsBefore first.old (all_of is_long few.old.items many.old) }
+    requires reserved { HasRoom is_long (all_of is_long few.old.items many.old) served.old.items
         (vec_capacity served.old) }
     requires started { (items : List Flow)
-        × IsOrderIn is_long items (all_of is_long few.old.items many.old.items) served.old.items
-        × HasStartedIn config.now items tiers.old (all_of is_long few.old.items many.old.items) served.old.items start }
+        × IsOrderIn is_long items (all_of is_long few.old.items many.old) served.old.items
+        × HasStartedIn config.now items tiers.old (all_of is_long few.old.items many.old) served.old.items start }
     ensures next { (items : List Flow)
-        → IsOrderIn is_long items (all_of is_long few.old.items many.old.items) served.old.items
-        → HasStartedIn config.now items tiers.old (all_of is_long few.old.items many.old.items) served.old.items start
+        → IsOrderIn is_long items (all_of is_long few.old.items many.old) served.old.items
+        → HasStartedIn config.now items tiers.old (all_of is_long few.old.items many.old) served.old.items start
         → MatchOption result (NoneEligible config.now (map live items) start room.slots)
         (λ s. IsServedFirst config.now is_long items tiers.old tiers.new
-        (all_of is_long few.old.items many.old.items) served.old.items
-        (all_of is_long few.new.items many.new.items) served.new.items start room.slots room.bytes s.sid s.bytes) }
+        (all_of is_long few.old.items many.old) served.old.items
+        (all_of is_long few.new.items many.new) served.new.items start room.slots room.bytes s.sid s.bytes) }
     ensures none { result ≡ None
-        → (all_of is_long few.new.items many.new.items ≡ all_of is_long few.old.items many.old.items)
+        → (all_of is_long few.new.items many.new ≡ all_of is_long few.old.items many.old)
         × (served.new ≡ served.old) × (tiers.new ≡ tiers.old) }
     ensures passed { is_long ≡ true
-        → NoneWaitsBefore first.new (all_of is_long few.new.items many.new.items) }
-    ensures reserved { HasRoom is_long (all_of is_long few.new.items many.new.items) served.new.items
+        → NoneWaitsBefore first.new (all_of is_long few.new.items many.new) }
+    ensures reserved { HasRoom is_long (all_of is_long few.new.items many.new) served.new.items
         (vec_capacity served.new) }
     ensures lawful { IsLawful config.now }
 {
     if is_long {
-        let queue = many.make_contiguous();
+        let queue = many;
         return serve_long(queue, first, served, tiers, config, start, room);
     }
     serve_short(few, tiers, config, start, room)

@@ -1,6 +1,6 @@
 //! The flows that wait for bytes, in the order in which they are served.
 
-ghost use Rattle.std.specs.Prelude.{◌==◌, nat_lt, position, true, false, ◌+◌, ◌^◌, insert};
+ghost use Rattle.std.specs.Prelude.{◌==◌, nat_lt, position, true, false, ◌+◌, ◌^◌, insert, set, get_or};
 ghost use Rattle.std.specs.Prelude.{ℕ, ◌≡◌, ◌≢◌, ◌<◌, ◌≤◌, List, remove, slice_index_or, map, length, OnOk, OnErr, IfOk};
 ghost use Rattle.std.specs.Prelude.{Option, Some};
 ghost use Rattle.std.specs.List.{AllByRecursion, position_or_len};
@@ -16,10 +16,10 @@ ghost use Rattle.flow_book.specs.Queue.{HasPassed, StandsBehind, is_passed, stil
 use crate::bucket::Bucket;
 use crate::flow::Flow;
 use crate::flows::Flows;
+use crate::queue_list::Queue;
 use crate::tiers::NO_TIER;
 use crate::waiting::Waiting;
 use std::alloc::{AllocError, Global};
-use std::collections::VecDeque;
 use std::mem;
 
 // The place in the queue of the first of a later turn, or its end.
@@ -31,41 +31,32 @@ pub(crate) fn place_after(queue: &[Waiting], turn: u128) -> usize
     queue.partition_point(|waiting| waiting.turn <= turn)
 }
 
-// The same of a whole queue, which need not stand in one piece.
-fn place_in(queue: &VecDeque<Waiting>, turn: u128) -> usize
-    requires { AscendBy (λ w. w.turn) queue.now.items }
-    ensures place { result ≡ position_or_len (λ w. nat_lt turn w.turn) queue.now.items }
-    ensures within { result ≤ length queue.now.items }
-{
-    queue.partition_point(|waiting| waiting.turn <= turn)
-}
-
 // The place in the queue of the flow at this place among the flows.
-fn index_of(queue: &VecDeque<Waiting>, place: usize) -> Option<usize>
-    ensures { result ≡ position (λ w. w.place == place) queue.now.items }
+fn index_of(queue: &Queue, place: usize) -> Option<usize>
+    ensures { result ≡ position (λ w. w.place == place) queue.now }
 {
     queue
+        .all()
         .iter()
         .position(|waiting| waiting.place as usize == place)
 }
 
 // Puts one that waits into the queue, before the first of a later turn.
-pub(crate) fn put_in_turn(queue: &mut VecDeque<Waiting>, waiting: Waiting) -> Result<(), AllocError>
-    requires { AscendBy (λ w. w.turn) queue.old.items }
-    ensures put { OnOk result (queue.new.items ≡ put_in (λ w. w.turn) waiting queue.old.items) }
-    ensures same { OnErr result (queue.new.items ≡ queue.old.items) }
+pub(crate) fn put_in_turn(queue: &mut Queue, waiting: Waiting) -> Result<(), AllocError>
+    requires { AscendBy (λ w. w.turn) queue.old }
+    ensures put { OnOk result (queue.new ≡ put_in (λ w. w.turn) waiting queue.old) }
+    ensures same { OnErr result (queue.new ≡ queue.old) }
 {
-    let index = place_in(queue, waiting.turn);
-    queue.insert(index, waiting)?;
-    Ok(())
+    let index = place_after(queue.all(), waiting.turn);
+    queue.insert(index, waiting)
 }
 
 // The queue of all flows that wait.
-pub(crate) fn queue_of(alloc: Global, flows: &Flows) -> Result<VecDeque<Waiting>, AllocError>
+pub(crate) fn queue_of(alloc: Global, flows: &Flows) -> Result<Queue, AllocError>
     requires { (c : Config) × IsBook c flows.now }
-    ensures { IfOk result (λ queue. IsQueue flows.now queue.items) }
+    ensures { IfOk result (λ queue. IsQueue flows.now queue) }
 {
-    let mut queue = VecDeque::with_capacity(alloc, flows.len())?;
+    let mut queue = Queue::of(Vec::with_capacity(alloc, flows.len())?);
     for place in 0..flows.len() {
         let waiting = waiting_of(flows.at(place), place);
         if waiting.wants > 0 {
@@ -146,18 +137,18 @@ pub(crate) fn put_on(queue: &mut [Waiting], index: usize, waiting: Waiting)
 }
 
 // Moves the one of this place to its turn in the queue: most often it comes later than before, and moves back.
-fn move_to_turn(queue: &mut VecDeque<Waiting>, waiting: Waiting) -> Result<(), AllocError>
-    requires { (items : List Flow) × IsQueue items queue.old.items }
-    ensures { OnOk result ((items : List Flow) → IsQueue items queue.old.items
-        → IsMoved items waiting queue.new.items) }
+fn move_to_turn(queue: &mut Queue, waiting: Waiting) -> Result<(), AllocError>
+    requires { (items : List Flow) × IsQueue items queue.old }
+    ensures { OnOk result ((items : List Flow) → IsQueue items queue.old
+        → IsMoved items waiting queue.new) }
 {
     let place = waiting.place as usize;
     let Some(index) = index_of(queue, place) else {
         put_in_turn(queue, waiting)?;
         return Ok(());
     };
-    if queue[index].turn <= waiting.turn {
-        move_back(queue.make_contiguous(), index, waiting);
+    if queue.all()[index].turn <= waiting.turn {
+        queue.move_back(index, waiting);
         return Ok(());
     }
     take_out(queue, place);
@@ -166,12 +157,12 @@ fn move_to_turn(queue: &mut VecDeque<Waiting>, waiting: Waiting) -> Result<(), A
 }
 
 // Moves the flow at this place of a book, which has changed, to its turn in the queue, or takes it out.
-fn put_again(queue: &mut VecDeque<Waiting>, flows: &Flows, place: usize) -> Result<(), AllocError>
+fn put_again(queue: &mut Queue, flows: &Flows, place: usize) -> Result<(), AllocError>
     requires book { (c : Config) × IsBook c flows.now }
     requires within { place < length flows.now }
     requires queue { (before : List Flow)
-        × AreSameBut place before flows.now × IsQueue before queue.old.items }
-    ensures { OnOk result (IsQueue flows.now queue.new.items) }
+        × AreSameBut place before flows.now × IsQueue before queue.old }
+    ensures { OnOk result (IsQueue flows.now queue.new) }
 {
     let waiting = waiting_of(flows.at(place), place);
     if waiting.wants > 0 {
@@ -204,18 +195,26 @@ pub(crate) fn waiting_of(flow: &Flow, place: usize) -> Waiting
     }
 }
 
+// The one at this place in the queue waits for nothing any more.
+pub(crate) fn make_idle(queue: &mut [Waiting], index: usize)
+    requires { index < length queue.old }
+    ensures { (d : Waiting) → queue.new ≡ set queue.old index (record (get_or queue.old index d) { wants = 0 }) }
+{
+    queue[index].wants = 0;
+}
+
 // Takes the flow at this place out of the queue, where it is in it.
-fn take_out(queue: &mut VecDeque<Waiting>, place: usize)
-    ensures { (items : List Flow) → IsQueue items queue.old.items
-        → IsQueueAmong items (λ other. other ≢ place) queue.new.items }
+fn take_out(queue: &mut Queue, place: usize)
+    ensures { (items : List Flow) → IsQueue items queue.old
+        → IsQueueAmong items (λ other. other ≢ place) queue.new }
 {
     if let Some(index) = index_of(queue, place) {
-        let _ = queue.remove(index);
+        queue.remove(index);
     }
 }
 
 // Moves the places up for a flow that is put in at this place: each from there on is one more.
-fn move_up(queue: &mut [Waiting], place: usize)
+pub(crate) fn move_up(queue: &mut [Waiting], place: usize)
     requires { AllByRecursion (λ w. w.place + 1 < 2 ^ 32) queue.old }
     ensures { queue.new ≡ map (moved_up place) queue.old }
 {
@@ -227,20 +226,20 @@ fn move_up(queue: &mut [Waiting], place: usize)
 }
 
 // Makes way in a queue that is known for a flow that is put in at this place and waits for nothing.
-pub(crate) fn make_way(queue: &mut VecDeque<Waiting>, is_queued: bool, place: usize)
+pub(crate) fn make_way(queue: &mut Queue, is_queued: bool, place: usize)
     requires { is_queued ≡ true → (items : List Flow)
-        × IsQueue items queue.old.items × (length items + 1 < 2 ^ 32) }
-    ensures { (items : List Flow) (f : Flow) → is_queued ≡ true → IsQueue items queue.old.items
+        × IsQueue items queue.old × (length items + 1 < 2 ^ 32) }
+    ensures { (items : List Flow) (f : Flow) → is_queued ≡ true → IsQueue items queue.old
         → place ≤ length items → outstanding (live f) ≡ 0
-        → IsQueue (insert items place f) queue.new.items }
+        → IsQueue (insert items place f) queue.new }
 {
     if is_queued {
-        move_up(queue.make_contiguous(), place);
+        queue.move_up(place);
     }
 }
 
 // Moves the places down where the flow at this place is taken out: each behind it is one less.
-fn move_down(queue: &mut [Waiting], place: usize)
+pub(crate) fn move_down(queue: &mut [Waiting], place: usize)
     ensures { queue.new ≡ map (moved_down place) queue.old }
 {
     for waiting in queue.iter_mut() {
@@ -251,68 +250,57 @@ fn move_down(queue: &mut [Waiting], place: usize)
 }
 
 // Takes the flow at this place, which leaves the book, out of the queue.
-pub(crate) fn leave(queue: &mut VecDeque<Waiting>, place: usize)
-    ensures { (items : List Flow) → place < length items → IsQueue items queue.old.items
-        → IsQueue (remove items place) queue.new.items }
+pub(crate) fn leave(queue: &mut Queue, place: usize)
+    ensures { (items : List Flow) → place < length items → IsQueue items queue.old
+        → IsQueue (remove items place) queue.new }
 {
     take_out(queue, place);
-    move_down(queue.make_contiguous(), place);
+    queue.move_down(place);
 }
 
 // Makes room in the queue for one more than so many flows, and as much beside it: then those that go behind it seldom
 // need those before them to move.
-pub(crate) fn make_room(queue: &mut VecDeque<Waiting>, flows: usize) -> Result<(), AllocError>
-    ensures { queue.new.items ≡ queue.old.items }
+pub(crate) fn make_room(queue: &mut Queue, flows: usize) -> Result<(), AllocError>
+    ensures { queue.new ≡ queue.old }
 {
-    let most = flows.saturating_add(1).saturating_mul(2);
-    queue.reserve(most.saturating_sub(queue.len()))
+    queue.reserve(flows.saturating_add(1).saturating_mul(2))
 }
 
 // A copy of the queue.
-pub(crate) fn copy_of(
-    alloc: Global,
-    queue: &VecDeque<Waiting>,
-) -> Result<VecDeque<Waiting>, AllocError>
-    ensures { IfOk result (λ copy. copy.items ≡ queue.now.items) }
+pub(crate) fn copy_of(alloc: Global, queue: &Queue) -> Result<Queue, AllocError>
+    ensures { IfOk result (λ copy. copy ≡ queue.now) }
 {
-    let (front, back) = queue.as_slices();
     let mut copy = Vec::with_capacity(alloc, queue.len())?;
-    copy.extend_from_slice(front)?;
-    copy.extend_from_slice(back)?;
-    Ok(VecDeque::from_vec(copy))
+    copy.extend_from_slice(queue.all())?;
+    Ok(Queue::of(copy))
 }
 
 // Takes a queue that is known from its book, which has none then, or makes it.
 pub(crate) fn take_or_make(
-    queue: &mut VecDeque<Waiting>,
+    queue: &mut Queue,
     is_queued: &mut bool,
     flows: &Flows,
-) -> Result<VecDeque<Waiting>, AllocError>
+) -> Result<Queue, AllocError>
     requires book { (c : Config) × IsBook c flows.now }
-    requires queue { is_queued.old ≡ true → IsQueue flows.now queue.old.items }
-    ensures made { IfOk result (λ made. IsQueue flows.now made.items) }
-    ensures left { is_queued.new ≡ true → IsQueue flows.now queue.new.items }
+    requires queue { is_queued.old ≡ true → IsQueue flows.now queue.old }
+    ensures made { IfOk result (λ made. IsQueue flows.now made) }
+    ensures left { is_queued.new ≡ true → IsQueue flows.now queue.new }
 {
     let alloc = flows.allocator();
     if *is_queued {
         *is_queued = false;
-        return Ok(mem::replace(queue, VecDeque::new(alloc)));
+        return Ok(mem::replace(queue, Queue::new(alloc)));
     }
     queue_of(alloc, flows)
 }
 
 // Keeps a queue that is known where the flow at this place of a book has changed, and answers whether it still is.
-pub(crate) fn follow(
-    queue: &mut VecDeque<Waiting>,
-    is_queued: bool,
-    flows: &Flows,
-    place: usize,
-) -> bool
+pub(crate) fn follow(queue: &mut Queue, is_queued: bool, flows: &Flows, place: usize) -> bool
     requires book { (c : Config) × IsBook c flows.now }
     requires within { place < length flows.now }
     requires queue { is_queued ≡ true → (before : List Flow)
-        × AreSameBut place before flows.now × IsQueue before queue.old.items }
-    ensures { result ≡ true → IsQueue flows.now queue.new.items }
+        × AreSameBut place before flows.now × IsQueue before queue.old }
+    ensures { result ≡ true → IsQueue flows.now queue.new }
 {
     is_queued && put_again(queue, flows, place).is_ok()
 }

@@ -9,11 +9,10 @@ ghost use Rattle.flow_book.specs.Taking.{CanBeTaken, IsTaken};
 
 use crate::flow_list::FlowList;
 use crate::flows::Flows;
-use crate::gap::put_all;
+use crate::queue_list::Queue;
 use crate::tiers::Tier;
 use crate::waiting::Waiting;
 use std::alloc::AllocError;
-use std::collections::VecDeque;
 
 // Gives each flow that a MAP served the data grants that it has after it, and what is kept of it.
 pub(crate) fn take_over(flows: &mut Flows, served: &[Waiting], tiers: &[Tier], after: &FlowList)
@@ -35,7 +34,7 @@ pub(crate) fn take_over(flows: &mut Flows, served: &[Waiting], tiers: &[Tier], a
 }
 
 // The place behind the last of a queue that waits no more, 0 where all wait.
-fn behind_last_idle(queue: &[Waiting]) -> usize
+pub(crate) fn behind_last_idle(queue: &[Waiting]) -> usize
     ensures within { result ≤ length queue.now }
     ensures waiting { filter still_waits (drop result queue.now) ≡ drop result queue.now }
 {
@@ -48,7 +47,7 @@ fn behind_last_idle(queue: &[Waiting]) -> usize
 
 // Moves those of a queue before this place that still wait up to it, in their order, and answers where the first of them
 // stands then.
-fn close_up(queue: &mut [Waiting], upto: usize) -> usize
+pub(crate) fn close_up(queue: &mut [Waiting], upto: usize) -> usize
     requires { upto ≤ length queue.old }
     ensures closed { drop result queue.new ≡ filter still_waits (take upto queue.old) ++ drop upto queue.old }
     ensures within { result ≤ upto }
@@ -64,33 +63,15 @@ fn close_up(queue: &mut [Waiting], upto: usize) -> usize
     first
 }
 
-// Takes so many out of a queue at its front.
-fn drop_front(queue: &mut VecDeque<Waiting>, count: usize)
-    ensures { queue.new.items ≡ drop count queue.old.items }
-{
-    for _ in 0..count {
-        let _ = queue.pop_front();
-    }
-}
-
-// Takes those out of a queue that wait no more.
-fn drop_idle(queue: &mut VecDeque<Waiting>)
-    ensures { queue.new.items ≡ filter still_waits queue.old.items }
-{
-    let upto = behind_last_idle(queue.make_contiguous());
-    let first = close_up(queue.make_contiguous(), upto);
-    drop_front(queue, first);
-}
-
 // Makes a queue of those that still wait in the two parts, by their turns.
-pub(crate) fn merge(queue: &mut VecDeque<Waiting>, served: Vec<Waiting>) -> Result<(), AllocError>
+pub(crate) fn merge(queue: &mut Queue, served: Vec<Waiting>) -> Result<(), AllocError>
     requires { (c : Config) × (items : List Flow) × IsBook c items
-        × IsQueueIn items queue.old.items served.items }
+        × IsQueueIn items queue.old served.items }
     ensures { OnOk result ((c : Config) (items : List Flow) → IsBook c items
-        → IsQueueIn items queue.old.items served.items → IsQueue items queue.new.items) }
+        → IsQueueIn items queue.old served.items → IsQueue items queue.new) }
 {
     let mut served = served;
     served.retain(|waiting| waiting.wants > 0);
-    drop_idle(queue);
-    put_all(queue, &served)
+    queue.drop_idle();
+    queue.put_all(&served)
 }

@@ -43,14 +43,14 @@ usual_legend =
     codes "<g id='legend'><path class='key region' d='M-160 8h28v16h-28z'/>"
     ++ (codes "<text x='-124' y='21'>request region</text>\n"
     ++ (codes "<path class='key poll' d='M-12 8h28v16h-28z'/><text x='24' y='21'>poll of one modem</text>\n"
-    ++ (codes "<path class='key short' d='M136 8h28v16h-28z'/><text x='172' y='21'>short data grant</text>\n"
-    ++ codes "<path class='key long' d='M284 8h28v16h-28z'/><text x='320' y='21'>long data grant</text>\n")))
+    ++ (codes "<path class='key short' d='M156 8h28v16h-28z'/><text x='192' y='21'>short data grant</text>\n"
+    ++ codes "<path class='key long' d='M306 8h28v16h-28z'/><text x='342' y='21'>long data grant</text>\n")))
 
 -- what the other looks are for, and what the numbers before a row are
 unfoldable pub other_legend : List ℕ
 other_legend =
-    codes "<path class='key unsolicited' d='M432 8h28v16h-28z'/><text x='468' y='21'>unsolicited grant</text>\n"
-    ++ (codes "<path class='key ranging' d='M580 8h28v16h-28z'/><text x='616' y='21'>ranging</text>\n"
+    codes "<path class='key unsolicited' d='M452 8h28v16h-28z'/><text x='488' y='21'>unsolicited grant</text>\n"
+    ++ (codes "<path class='key ranging' d='M606 8h28v16h-28z'/><text x='642' y='21'>ranging</text>\n"
     ++ (codes "<path class='key idle' d='M728 8h28v16h-28z'/><text x='764' y='21'>idle</text>\n"
     ++ (codes "<path class='key other' d='M876 8h28v16h-28z'/><text x='912' y='21'>other</text>\n"
     ++ (codes "<text class='start' x='-128' y='46'>frame</text><text class='start' x='-8' y='46'>minislot</text>\n"

@@ -111,11 +111,11 @@ fn put_usual_legend<W: Sink>(lines: &mut TextBuffer, writer: &mut W) -> Result<(
     )?;
     lines.put(
         writer,
-        b"<path class='key short' d='M136 8h28v16h-28z'/><text x='172' y='21'>short data grant</text>\n",
+        b"<path class='key short' d='M156 8h28v16h-28z'/><text x='192' y='21'>short data grant</text>\n",
     )?;
     lines.put(
         writer,
-        b"<path class='key long' d='M284 8h28v16h-28z'/><text x='320' y='21'>long data grant</text>\n",
+        b"<path class='key long' d='M306 8h28v16h-28z'/><text x='342' y='21'>long data grant</text>\n",
     )
 }
 
@@ -127,11 +127,11 @@ fn put_other_legend<W: Sink>(lines: &mut TextBuffer, writer: &mut W) -> Result<(
 {
     lines.put(
         writer,
-        b"<path class='key unsolicited' d='M432 8h28v16h-28z'/><text x='468' y='21'>unsolicited grant</text>\n",
+        b"<path class='key unsolicited' d='M452 8h28v16h-28z'/><text x='488' y='21'>unsolicited grant</text>\n",
     )?;
     lines.put(
         writer,
-        b"<path class='key ranging' d='M580 8h28v16h-28z'/><text x='616' y='21'>ranging</text>\n",
+        b"<path class='key ranging' d='M606 8h28v16h-28z'/><text x='642' y='21'>ranging</text>\n",
     )?;
     lines.put(
         writer,

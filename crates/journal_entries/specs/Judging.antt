@@ -15,7 +15,7 @@ FindsBad before left n = ((n ≡ 0) × HasNoOpening before left) ⊎ FindsNoEntr
 -- what was found in a journal
 abbrev pub Finds : Option (List ℕ) → Option (List ℕ) → Judged → Type 0
 Finds before left (Legal auditor torn) = FindsLegal before left auditor.config auditor.history torn
-Finds before left (Illegal i) = FindsIllegal before left i × (i ≤ MAX_WHOLE_HISTORY)
+Finds before left (Illegal i entries) = FindsIllegal before left i × (i ≤ MAX_WHOLE_HISTORY)
 Finds before left (Bad n) = FindsBad before left n
 
 -- a scheduler whose whole history is what the journal stands for, all of it handed over

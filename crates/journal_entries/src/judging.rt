@@ -17,8 +17,9 @@ pub enum Judged {
     /// Each whole line behind the first is an entry that may follow those before it. The auditor has taken them all,
     /// and behind them stand so many bytes of a torn line.
     Legal(Auditor, u64),
-    /// This entry, counted from 0, is the first that may not follow those before it.
-    Illegal(u64),
+    /// This entry, counted from 0, is the first that may not follow those before it. The reader has read its line last,
+    /// and the reader's auditor has taken the entries before it.
+    Illegal(u64, JournalEntries),
     /// This line stands for nothing: 0 where there is no whole line, or the first one is no lawful configuration, else
     /// the number of the first line that is no entry.
     Bad(u64),
@@ -42,7 +43,7 @@ fn judge_entries<R: Source>(
     for _ in 0..=MAX_WHOLE_HISTORY {
         match entries.next(reader) {
             Ok(Next::Entry(_)) => {}
-            Ok(Next::Illegal(place)) => return Ok(Judged::Illegal(place)),
+            Ok(Next::Illegal(place)) => return Ok(Judged::Illegal(place, entries)),
             Ok(Next::Bad(line)) => return Ok(Judged::Bad(line)),
             Ok(Next::End(torn)) => return Ok(Judged::Legal(entries.auditor, torn)),
             Err(fault) => return Err(fault),

@@ -33,7 +33,7 @@ pub fn resume<R: Source>(alloc: Global, reader: &mut R) -> Result<Resumed, TextF
             Ok(scheduler) => Ok(Resumed::Ready(scheduler, torn)),
             Err(_) => Err(TextFault::Memory),
         },
-        Ok(Judged::Illegal(index)) => Ok(Resumed::Bad(index + 1)),
+        Ok(Judged::Illegal(index, _)) => Ok(Resumed::Bad(index + 1)),
         Ok(Judged::Bad(line)) => Ok(Resumed::Bad(line)),
         Err(fault) => Err(fault),
     }

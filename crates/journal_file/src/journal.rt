@@ -28,6 +28,8 @@ pub struct FileJournal<S, N> {
     notes: N,
     // The lines that are put there by one write.
     text: Vec<u8>,
+    // How many bytes were put there by calls that went well.
+    written: u64,
     alloc: Global,
 }
 
@@ -73,6 +75,7 @@ impl<S: Store, N: Notes> FileJournal<S, N> {
             },
             notes,
             text: Vec::new(alloc),
+            written: 0,
             alloc,
         }
     }
@@ -129,6 +132,7 @@ impl<S: Store, N: Notes> FileJournal<S, N> {
             Err(fault) => return Err(fault),
         };
         self.file.put(rest)?;
+        self.written = self.written.saturating_add(rest.len() as u64);
         Ok(())
     }
 
@@ -186,7 +190,9 @@ impl<S: Store, N: Notes> FileJournal<S, N> {
         if put_lines(self.alloc, &mut self.text, entries).is_err() {
             return Err(RecordFault::Memory);
         }
+        let bytes = self.text.len() as u64;
         self.file.put(&self.text)?;
+        self.written = self.written.saturating_add(bytes);
         Ok(())
     }
 }
@@ -206,6 +212,8 @@ impl<S: Store, N: Notes> Journal for FileJournal<S, N> {
 
     ghost has_failed = { file_failed S.has_failed S.may_misread };
 
+    ghost written = { λ j. j.written };
+
     fn begin(&mut self, config: &Checked) -> Result<(), BeginFault> {
         match self.file.place {
             Place::NoLine(size) => self.put_opening(size, config),
@@ -221,5 +229,9 @@ impl<S: Store, N: Notes> Journal for FileJournal<S, N> {
             Place::Failed => Err(RecordFault::Failed),
             _ => unreachable!(),
         }
+    }
+
+    fn written(&self) -> u64 {
+        self.written
     }
 }

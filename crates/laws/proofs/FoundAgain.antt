@@ -148,7 +148,7 @@ module _ (text : List ℕ) (c : Config) (es : List Entry) (torn : ℕ)
       → IsJudgedLegal c es torn verdict
   judged_legal left (judged.Legal auditor n) finds =
       only_legal text c es torn found left auditor.config auditor.history n finds
-  judged_legal left (judged.Illegal i) finds = absurd (not_illegal text c es torn found left i finds.0)
+  judged_legal left (judged.Illegal i entries) finds = absurd (not_illegal text c es torn found left i finds.0)
   judged_legal left (judged.Bad n) finds = absurd (not_bad left n finds)
 
 -- and nothing else

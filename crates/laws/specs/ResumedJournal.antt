@@ -22,7 +22,7 @@ IsResumedTo c es torn (resumed.Bad n) = ⊥
 -- this history under this configuration is judged legal, and so many bytes are torn
 abbrev pub IsJudgedLegal : Config → List Entry → ℕ → Judged → Type 0
 IsJudgedLegal c es torn (judged.Legal auditor n) = (auditor.config ≡ c) × (auditor.history ≡ es) × (n ≡ torn)
-IsJudgedLegal c es torn (judged.Illegal i) = ⊥
+IsJudgedLegal c es torn (judged.Illegal i entries) = ⊥
 IsJudgedLegal c es torn (judged.Bad n) = ⊥
 
 -- Who reads the bytes to their end finds a legal journal of this history, with so many torn bytes, and nothing else:

@@ -13,6 +13,9 @@ use Rattle.sched_calls.specs.declared.reply.Entry.{Entry}
 use Rattle.sched_history.specs.Machine.{Machine}
 use Rattle.sched_calls.specs.Reply.{Answer}
 use Rattle.sched_history.specs.Answer.{recorded}
+use Rattle.sched_history.specs.declared.scheduler.backlog.Backlog.{Backlog}
+use Rattle.sched_history.specs.Backlog.{backlog_of}
+use Rattle.sched_history.specs.Life.{flows_of}
 use Rattle.text_stream.specs.declared.TheConstants.{MAX_LINE}
 use Rattle.text_stream.specs.declared.fault.TextFault.{TextFault}
 use Rattle.live_command.specs.declared.wording.Wording.{Wording}
@@ -23,7 +26,7 @@ use Rattle.live_command.specs.Said.{said_in}
 use Rattle.live_command.specs.Spoken.{is_blank, is_spoken, spoken, asked_read, asked_of_line, asked_in, fault_line}
 use Rattle.live_command.specs.Answers.{answer_line, MayGet, after, Says, SaysEach, joined, AnswersLines}
 use Rattle.live_command.specs.Answers.{SaysHeard, SaysOne, AnswersHeard, Point, since_start, Waiting, IsCounted}
-use Rattle.live_command.specs.Answers.{Counted}
+use Rattle.live_command.specs.Answers.{Counted, standing_of}
 use Rattle.live_command.specs.declared.asked.Asked.{Asked}
 use Rattle.live_command.specs.declared.asked.Asked.TheVariants as asking
 use Rattle.live_command.specs.declared.numbers.Numbers.{Numbers}
@@ -191,29 +194,37 @@ answered_blank e p old before same counted = record {
 }
 
 -- what is said to a line that asks for the numbers
-pub said_stats : (e : Wording) (p : Point) (old : Machine) (before : Waiting) → p.history ≡ old.history
-    → IsCounted p before → SaysOne e (Some (Ok asking.Stats)) p old old
-said_stats e p old before same counted = record {
-  texts = stats_line before.total before.since ∷ [];
+pub said_stats : (e : Wording) (p : Point) (old : Machine) (before : Waiting) (lapsed written : ℕ)
+    → p.history ≡ old.history → IsCounted p before → SaysOne e (Some (Ok asking.Stats)) p old old
+said_stats e p old before lapsed written same counted = record {
+  texts = stats_line before.total before.since (standing_of old.config p.history lapsed written) ∷ [];
   point = record p { told = length p.history };
   says = (
-    stats_line before.total before.since,
+    stats_line before.total before.since (standing_of old.config p.history lapsed written),
     refl,
-    ((before.total, before.since, counted.total, counted.since, refl), refl),
+    ((before.total, before.since, lapsed, written, counted.total, counted.since, refl), refl),
   );
   history = same;
   state = refl;
 }
 
 -- and that was put: the numbers are counted anew
-pub answered_stats : (e : Wording) (p : Point) (old : Machine) (before waits : Waiting)
-    → waits.text ≡ before.text ++ stats_line before.total before.since → waits.total ≡ before.total
-    → AreNumbersOf waits.since [] → p.history ≡ old.history → IsCounted p before
+pub answered_stats : (e : Wording) (p : Point) (old : Machine) (before waits : Waiting) (backlog : Backlog)
+    (lapsed written : ℕ) → backlog ≡ backlog_of (flows_of old.config old.history)
+    → waits.text ≡ before.text ++ stats_line before.total before.since
+    (record { backlog = backlog; lapsed = lapsed; journal_bytes = written })
+    → waits.total ≡ before.total → AreNumbersOf waits.since [] → p.history ≡ old.history → IsCounted p before
     → AnswersHeard e (Some (Ok asking.Stats)) p old old before waits
 unfolding said_stats
-answered_stats e p old before waits put total since same counted = record {
-  said = said_stats e p old before same counted;
-  waits = put ∙ ap (λ (t : List ℕ). before.text ++ t) (sym (append-nil (stats_line before.total before.since)));
+answered_stats e p old before waits backlog lapsed written is put total since same counted = record {
+  said = said_stats e p old before lapsed written same counted;
+  waits = put
+      ∙ ap (λ (b : Backlog). before.text ++ stats_line before.total before.since
+      (record { backlog = b; lapsed = lapsed; journal_bytes = written })) is
+      ∙ ap (λ (h : List Entry). before.text ++ stats_line before.total before.since
+      (standing_of old.config h lapsed written)) (sym same)
+      ∙ ap (λ (t : List ℕ). before.text ++ t) (sym (append-nil (stats_line before.total before.since
+      (standing_of old.config p.history lapsed written))));
   counted = record {
     total = subst (λ (n : Numbers). AreNumbersOf n (since_start p)) (sym total) counted.total;
     since = subst (AreNumbersOf waits.since) (sym (drop-length p.history)) since;

@@ -13,6 +13,8 @@ use Rattle.sched_lines.specs.Line.{line_of}
 use Rattle.sched_lines.specs.Meaning.{explained_line}
 use Rattle.sched_lines.specs.Framed.{framed_line}
 use Rattle.sched_history.specs.Answer.{recorded}
+use Rattle.sched_history.specs.Backlog.{backlog_of}
+use Rattle.sched_history.specs.Life.{flows_of}
 use Rattle.live_command.specs.declared.fault.LineFault.{LineFault}
 use Rattle.live_command.specs.declared.wording.Wording.{Wording}
 use Rattle.live_command.specs.declared.wording.Wording.TheVariants.{Plain, Explained, Frames}
@@ -20,6 +22,7 @@ use Rattle.live_command.specs.declared.asked.Asked.{Asked}
 use Rattle.live_command.specs.declared.asked.Asked.TheVariants as asking
 use Rattle.live_command.specs.declared.numbers.Numbers.{Numbers}
 use Rattle.live_command.specs.Numbers.{AreNumbersOf, no_numbers}
+use Rattle.live_command.specs.declared.standing.Standing.{Standing}
 use Rattle.live_command.specs.Stats.{stats_line}
 use Rattle.live_command.specs.Spoken.{spoken, asked_of_line, fault_line}
 
@@ -59,17 +62,25 @@ since_start p = drop p.begun p.history
 abbrev pub since_stats : Point → List Entry
 since_stats p = drop p.told p.history
 
--- the line has the numbers of the entries since the beginning, and of those since the numbers were told last
-abbrev pub TellsNumbers : Point → List ℕ → Type 0
-TellsNumbers p text = (total : Numbers) × (since : Numbers) × AreNumbersOf total (since_start p)
-    × AreNumbersOf since (since_stats p) × (text ≡ stats_line total since)
+-- how a conversation stands: what waits for data grants of the flows that are live after its history, so many Reserves
+-- that have lapsed, and so many bytes of its journal
+abbrev pub standing_of : Config → List Entry → ℕ → ℕ → Standing
+standing_of c h lapsed journal_bytes =
+    record { backlog = backlog_of (flows_of c h); lapsed = lapsed; journal_bytes = journal_bytes }
+
+-- the line has the numbers of the entries since the beginning, and of those since the numbers were told last, and how
+-- the conversation stands
+abbrev pub TellsNumbers : Config → Point → List ℕ → Type 0
+TellsNumbers c p text = (total : Numbers) × (since : Numbers) × (lapsed : ℕ) × (written : ℕ)
+    × AreNumbersOf total (since_start p) × AreNumbersOf since (since_stats p)
+    × (text ≡ stats_line total since (standing_of c p.history lapsed written))
 
 -- what is said to what a line asks for or its fault, and how far the conversation has come then
 abbrev pub Says : Config → Wording → Point → Result Asked LineFault → List ℕ → Point → Type 0
 Says c wording p (Ok (asking.Call call)) text new = (answer : Answer) × MayGet c p.history call answer
     × (text ≡ answer_line wording answer) × (new ≡ record p { history = after p.history call answer })
 Says c wording p (Ok asking.Stats) text new =
-    TellsNumbers p text × (new ≡ record p { told = length p.history })
+    TellsNumbers c p text × (new ≡ record p { told = length p.history })
 Says c wording p (Err fault) text new = (text ≡ fault_line fault) × (new ≡ p)
 
 -- what is said to lines, one text to each in order, and how far the conversation has come then

@@ -1,6 +1,7 @@
 -- The answer to a line that asks for the numbers of a conversation.
 use Rattle.std.specs.Prelude.{ℕ, List, ◌∷◌, ◌++◌, flat_map, codes, decimal, Option, None, Some}
 use Rattle.live_command.specs.declared.numbers.Numbers.{Numbers}
+use Rattle.live_command.specs.declared.standing.Standing.{Standing}
 
 -- a number behind a comma
 abbrev pub next_text : ℕ → List ℕ
@@ -38,7 +39,20 @@ numbers_text n = counts_text n ++ extremes_text n
 unfoldable pub named_text : List ℕ → Numbers → List ℕ
 named_text name n = name ++ numbers_text n
 
--- the line of the numbers since the start, and since they were told last
-unfoldable pub stats_line : Numbers → Numbers → List ℕ
-stats_line total since = named_text (codes "{\"since_start\":") total
-    ++ (named_text (codes ",\"since_stats\":") since ++ codes "}\n")
+-- what waits for data grants
+unfoldable pub backlog_text : Standing → List ℕ
+backlog_text now = member_text (codes ",\"waiting_flows\":") now.backlog.flows
+    ++ member_text (codes ",\"waiting_bytes\":") now.backlog.bytes
+
+-- how a conversation stands
+unfoldable pub standing_text : Standing → List ℕ
+standing_text now = backlog_text now ++ (member_text (codes ",\"lapsed_reserves\":") now.lapsed
+    ++ member_text (codes ",\"journal_bytes\":") now.journal_bytes)
+
+-- the numbers since the start, and since they were told last
+unfoldable pub both_text : Numbers → Numbers → List ℕ
+both_text total since = named_text (codes "{\"since_start\":") total ++ named_text (codes ",\"since_stats\":") since
+
+-- the line of both, and of how the conversation stands
+unfoldable pub stats_line : Numbers → Numbers → Standing → List ℕ
+stats_line total since now = both_text total since ++ (standing_text now ++ codes "}\n")

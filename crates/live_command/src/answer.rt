@@ -17,6 +17,7 @@ use crate::blank::is_spoken;
 use crate::fault::LineFault;
 use crate::outbox::Outbox;
 use crate::said::{Said, read_said};
+use crate::standing::Standing;
 use crate::wording::Wording;
 use json::Scratch;
 use minislots::Stamp;
@@ -68,7 +69,17 @@ fn read_asked(
     read_short(alloc, scratch, line)
 }
 
-// Makes a call. It has seat 0, and its place in the history for a ticket.
+// The stamp of the next call: it has seat 0, and its place in the history for a ticket.
+fn next_stamp(scheduler: &Scheduler) -> Stamp
+    ensures { result ≡ record { seat = 0; ticket = length scheduler.now.history } }
+{
+    Stamp {
+        seat: 0,
+        ticket: scheduler.recorded(),
+    }
+}
+
+// Makes a call.
 fn make_call(scheduler: &mut Scheduler, call: Call) -> Result<Reply, Unrecorded>
     requires { length (kept_of scheduler.old) < scheduler.old.config.calls }
     ensures may { MayGet scheduler.old.config scheduler.old.history call result }
@@ -76,11 +87,46 @@ fn make_call(scheduler: &mut Scheduler, call: Call) -> Result<Reply, Unrecorded>
         ≡ record scheduler.old { history = after scheduler.old.history call result } }
     ensures line { HasLine result }
 {
-    let stamp = Stamp {
-        seat: 0,
-        ticket: scheduler.recorded(),
-    };
+    let stamp = next_stamp(scheduler);
     scheduler.call(stamp, call)
+}
+
+// Makes a build, and counts the Reserves that lapse with it. One that cannot be planned is a call as others are.
+fn make_build(scheduler: &mut Scheduler, outbox: &mut Outbox, now: u64) -> Result<Reply, Unrecorded>
+    requires { length (kept_of scheduler.old) < scheduler.old.config.calls }
+    ensures may { MayGet scheduler.old.config scheduler.old.history (Call.Build now) result }
+    ensures state { scheduler.new
+        ≡ record scheduler.old { history = after scheduler.old.history (Call.Build now) result } }
+    ensures line { HasLine result }
+    ensures outbox { outbox.new ≡ outbox.old }
+{
+    let stamp = next_stamp(scheduler);
+    match scheduler.plan(now) {
+        Ok(planned) => {
+            outbox.count_lapsed(scheduler.lapses(&planned));
+            Ok(scheduler.commit(stamp, planned))
+        }
+        Err(_) => make_call(scheduler, Call::Build { now }),
+    }
+}
+
+// Makes a call, and counts the Reserves that lapse with it.
+fn make_counted(
+    scheduler: &mut Scheduler,
+    outbox: &mut Outbox,
+    call: Call,
+) -> Result<Reply, Unrecorded>
+    requires { length (kept_of scheduler.old) < scheduler.old.config.calls }
+    ensures may { MayGet scheduler.old.config scheduler.old.history call result }
+    ensures state { scheduler.new
+        ≡ record scheduler.old { history = after scheduler.old.history call result } }
+    ensures line { HasLine result }
+    ensures outbox { outbox.new ≡ outbox.old }
+{
+    match call {
+        Call::Build { now } => make_build(scheduler, outbox, now),
+        _ => make_call(scheduler, call),
+    }
 }
 
 // Counts a call where it was recorded.
@@ -115,7 +161,7 @@ fn answer_call(
         ≡ record scheduler.old { history = after scheduler.old.history call answer })) }
     ensures err { IfErr result (λ e. e ≡ TextFault.Memory) }
 {
-    let answer = make_call(scheduler, call);
+    let answer = make_counted(scheduler, outbox, call);
     count_call(outbox, &call, &answer);
     outbox.put_answer(&answer, wording)
 }
@@ -126,6 +172,7 @@ fn answer_asked(
     outbox: &mut Outbox,
     asked: Asked,
     wording: Wording,
+    journal_bytes: u64,
 ) -> Result<(), TextFault>
     requires { length (kept_of scheduler.old) < scheduler.old.config.calls }
     ensures ok { OnOk result ((p : Point) → p.history ≡ scheduler.old.history →
@@ -137,7 +184,14 @@ fn answer_asked(
 {
     match asked {
         Asked::Call(call) => answer_call(scheduler, outbox, call, wording),
-        Asked::Stats => outbox.put_stats(),
+        Asked::Stats => {
+            let now = Standing {
+                backlog: scheduler.backlog(),
+                lapsed: outbox.lapsed(),
+                journal_bytes,
+            };
+            outbox.put_stats(&now)
+        }
     }
 }
 
@@ -203,13 +257,20 @@ pub fn hear(
     Ok(call_heard(heard))
 }
 
+/// Whether it is heard of a line that it asks for the numbers.
+pub(crate) fn asks_stats(heard: &Option<Result<Asked, LineFault>>) -> bool {
+    matches!(heard, Some(Ok(Asked::Stats)))
+}
+
 /// Answers what was heard of a line: what is said goes behind what waits. Nothing is said where nothing was heard.
-/// Where memory runs out a call is made all the same, and its answer is not among those that wait.
+/// Where memory runs out a call is made all the same, and its answer is not among those that wait. The numbers tell so
+/// many bytes of the journal.
 pub(crate) fn answer(
     scheduler: &mut Scheduler,
     outbox: &mut Outbox,
     heard: Option<Result<Asked, LineFault>>,
     wording: Wording,
+    journal_bytes: u64,
 ) -> Result<(), TextFault>
     requires { length (kept_of scheduler.old) < scheduler.old.config.calls }
     ensures ok { OnOk result ((p : Point) → p.history ≡ scheduler.old.history →
@@ -220,7 +281,7 @@ pub(crate) fn answer(
     ensures err { IfErr result (λ e. e ≡ TextFault.Memory) }
 {
     match heard {
-        Some(Ok(asked)) => answer_asked(scheduler, outbox, asked, wording),
+        Some(Ok(asked)) => answer_asked(scheduler, outbox, asked, wording, journal_bytes),
         Some(Err(fault)) => outbox.put_fault(fault),
         None => Ok(()),
     }

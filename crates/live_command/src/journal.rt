@@ -1,6 +1,6 @@
 //! What a conversation is recorded in.
 
-ghost use Rattle.std.specs.Prelude.{◌≡◌, Bool, true, false, List, IfErr, OnOk, OnErr};
+ghost use Rattle.std.specs.Prelude.{◌≡◌, ℕ, Bool, true, false, List, IfErr, OnOk, OnErr};
 ghost use Rattle.std.specs.List.{AllByRecursion};
 ghost use Rattle.minislots.specs.declared.config.Config.{Config as Configuration};
 ghost use Rattle.sched_calls.specs.declared.reply.Entry.{Entry as Recorded};
@@ -57,6 +57,9 @@ pub trait Journal {
     /// Whether a call has failed; true, too, where nothing is known of it.
     ghost has_failed: { Self → Bool };
 
+    /// How many bytes were put into it by calls that went well.
+    ghost written: { Self → ℕ };
+
     /// Begins it under this configuration, or makes it ready to be continued where it was begun. Nothing of it is
     /// changed before.
     fn begin(&mut self, config: &Checked) -> Result<(), BeginFault>
@@ -82,6 +85,10 @@ pub trait Journal {
             GrowsInPart (stands_for self.old v c) (stands_for self.new v c) entries.now) }
         ensures failed { FailsJustBy RecordFault.Failed result
             (has_failed self.old) (has_failed self.new) };
+
+    /// How many bytes were put into it by calls that went well.
+    fn written(&self) -> u64
+        ensures { result ≡ written self.now };
 }
 
 /// The journal of a conversation that is not recorded. It never refuses to begin.
@@ -103,11 +110,17 @@ impl Journal for NoJournal {
 
     ghost has_failed = { λ _. false };
 
+    ghost written = { λ _. 0 };
+
     fn begin(&mut self, _config: &Checked) -> Result<(), BeginFault> {
         Ok(())
     }
 
     fn record(&mut self, _entries: &[Entry]) -> Result<(), RecordFault> {
         Ok(())
+    }
+
+    fn written(&self) -> u64 {
+        0
     }
 }

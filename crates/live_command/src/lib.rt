@@ -16,6 +16,7 @@ mod numbers;
 mod opening;
 mod outbox;
 mod said;
+mod standing;
 mod stats;
 mod talk;
 mod turn;

@@ -12,6 +12,7 @@ ghost use Rattle.live_command.specs.Spoken.{fault_line};
 
 use crate::fault::LineFault;
 use crate::numbers::Numbers;
+use crate::standing::Standing;
 use crate::stats::put_stats;
 use crate::wording::Wording;
 use sched_history::{Call, Reply, Unrecorded};
@@ -36,6 +37,8 @@ pub(crate) struct Outbox {
     total: Numbers,
     // Since they were told last.
     since: Numbers,
+    // How many Reserves have lapsed since the beginning. No contract sees it.
+    lapsed: u64,
 }
 
 impl Model for Outbox {
@@ -92,6 +95,7 @@ impl Outbox {
             lines: LineBuffer::new(),
             total: Numbers::none(),
             since: Numbers::none(),
+            lapsed: 0,
         })
     }
 
@@ -146,10 +150,23 @@ impl Outbox {
         self.since.count(call, reply);
     }
 
-    /// Puts the line of the numbers behind those that wait, and counts anew what is answered from here on.
-    pub fn put_stats(&mut self) -> Result<(), TextFault>
+    /// Counts so many Reserves that have lapsed.
+    pub fn count_lapsed(&mut self, lapses: u64)
+        ensures { self.new ≡ self.old }
+    {
+        self.lapsed = self.lapsed.saturating_add(lapses);
+    }
+
+    /// How many Reserves have lapsed.
+    pub fn lapsed(&self) -> u64 {
+        self.lapsed
+    }
+
+    /// Puts the line of the numbers behind those that wait, with how the conversation stands, and counts anew what is
+    /// answered from here on.
+    pub fn put_stats(&mut self, now: &Standing) -> Result<(), TextFault>
         ensures ok { OnOk result
-            (self.new.text ≡ self.old.text ++ stats_line self.old.total self.old.since) }
+            (self.new.text ≡ self.old.text ++ stats_line self.old.total self.old.since now.now) }
         ensures total { self.new.total ≡ self.old.total }
         ensures since { OnOk result (AreNumbersOf self.new.since []) }
         ensures err { IfErr result (λ e. e ≡ TextFault.Memory) }
@@ -157,7 +174,7 @@ impl Outbox {
         if self.lines.write_out(&mut self.text).is_err() {
             return Err(TextFault::Memory);
         }
-        put_stats(&mut self.text, &self.total, &self.since)?;
+        put_stats(&mut self.text, &self.total, &self.since, now)?;
         self.since = Numbers::none();
         Ok(())
     }

@@ -2,9 +2,11 @@
 
 ghost use Rattle.std.specs.Prelude.{◌≡◌, ◌++◌, decimal, flat_map, OnOk};
 ghost use Rattle.live_command.specs.Stats.{next_text, number_or_null, member_text, refused_text, counts_text};
-ghost use Rattle.live_command.specs.Stats.{extremes_text, numbers_text, named_text, stats_line};
+ghost use Rattle.live_command.specs.Stats.{extremes_text, numbers_text, named_text, both_text, stats_line};
+ghost use Rattle.live_command.specs.Stats.{backlog_text, standing_text};
 
 use crate::numbers::Numbers;
+use crate::standing::Standing;
 use itoa::Buffer;
 use std::alloc::AllocError;
 
@@ -95,17 +97,55 @@ fn put_named(text: &mut Vec<u8>, name: &[u8], numbers: &Numbers) -> Result<(), A
     put_numbers(text, numbers)
 }
 
-/// The line of the numbers since the start, and since they were told last.
+// The numbers since the start, and since they were told last.
+#[tactic(auto, unfolding(crate::specs::Stats::both_text))]
+fn put_both(text: &mut Vec<u8>, total: &Numbers, since: &Numbers) -> Result<(), AllocError>
+    ensures { OnOk result (text.new.items ≡ text.old.items ++ both_text total.now since.now) }
+{
+    put_named(text, b"{\"since_start\":", total)?;
+    put_named(text, b",\"since_stats\":", since)
+}
+
+// A name, and a number of 128 bits behind it.
+fn put_wide(text: &mut Vec<u8>, name: &[u8], number: u128) -> Result<(), AllocError>
+    ensures { OnOk result (text.new.items ≡ text.old.items ++ member_text name.now number) }
+{
+    let mut digits = Buffer::new();
+    text.extend_from_slice(name)?;
+    text.extend_from_slice(digits.format(number).as_bytes())
+}
+
+// What waits for data grants.
+#[tactic(auto, unfolding(crate::specs::Stats::backlog_text))]
+fn put_backlog(text: &mut Vec<u8>, now: &Standing) -> Result<(), AllocError>
+    ensures { OnOk result (text.new.items ≡ text.old.items ++ backlog_text now.now) }
+{
+    put_member(text, b",\"waiting_flows\":", now.backlog.flows)?;
+    put_wide(text, b",\"waiting_bytes\":", now.backlog.bytes)
+}
+
+// How the conversation stands.
+#[tactic(auto, unfolding(crate::specs::Stats::standing_text))]
+fn put_standing(text: &mut Vec<u8>, now: &Standing) -> Result<(), AllocError>
+    ensures { OnOk result (text.new.items ≡ text.old.items ++ standing_text now.now) }
+{
+    put_backlog(text, now)?;
+    put_member(text, b",\"lapsed_reserves\":", now.lapsed)?;
+    put_member(text, b",\"journal_bytes\":", now.journal_bytes)
+}
+
+/// The line of the numbers since the start, and since they were told last, and of how the conversation stands.
 #[tactic(auto, unfolding(crate::specs::Stats::stats_line))]
 pub(crate) fn put_stats(
     text: &mut Vec<u8>,
     total: &Numbers,
     since: &Numbers,
+    now: &Standing,
 ) -> Result<(), AllocError>
-    ensures { OnOk result (text.new.items ≡ text.old.items ++ stats_line total.now since.now) }
+    ensures { OnOk result (text.new.items ≡ text.old.items ++ stats_line total.now since.now now.now) }
 {
-    put_named(text, b"{\"since_start\":", total)?;
-    put_named(text, b",\"since_stats\":", since)?;
+    put_both(text, total, since)?;
+    put_standing(text, now)?;
     text.extend_from_slice(b"}\n")?;
     Ok(())
 }

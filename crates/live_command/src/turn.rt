@@ -9,7 +9,7 @@ ghost use Rattle.live_command.specs.declared.fault.LiveFault.TheVariants.{Text, 
 ghost use Rattle.live_command.specs.Journal.{FailsJustBy};
 ghost use Rattle.live_command.specs.Talk.{Start, Talk, TellsOn, IsTurn, IsAnywhere, Conversed, Stopped, StopsTalk};
 
-use crate::answer::{answer, hear_told};
+use crate::answer::{answer, asks_stats, hear_told};
 use crate::fault::LiveFault;
 use crate::journal::Journal;
 use crate::noting::record;
@@ -53,12 +53,13 @@ pub(crate) fn settle<W: Sink, J: Journal>(
     Ok(())
 }
 
-// Makes room for one entry and its answer.
+// Makes room for one entry and its answer. Where it is asked for, the journal has all entries then.
 fn make_room<W: Sink, J: Journal>(
     scheduler: &mut Scheduler,
     outbox: &mut Outbox,
     writer: &mut W,
     journal: &mut J,
+    settles: bool,
 ) -> Result<(), LiveFault>
     requires { J.is_begun journal.old }
     ensures begun { OnOk result (J.is_begun journal.new) }
@@ -78,7 +79,7 @@ fn make_room<W: Sink, J: Journal>(
         (J.has_failed journal.old) (J.has_failed journal.new) }
 {
     let calls = scheduler.config().calls() as usize;
-    if scheduler.history().len() < calls && !outbox.is_full() {
+    if !settles && scheduler.history().len() < calls && !outbox.is_full() {
         return Ok(());
     }
     settle(scheduler, outbox, writer, journal)
@@ -156,7 +157,6 @@ fn take_told<W: Sink, J: Journal>(
     ensures failed_journal { FailsJustBy Failed result
         (J.has_failed journal.old) (J.has_failed journal.new) }
 {
-    make_room(scheduler, outbox, writer, journal)?;
     let heard = match hear_told(alloc, scratch, lines, told) {
         Ok(heard) => heard,
         Err(fault) => {
@@ -164,7 +164,8 @@ fn take_told<W: Sink, J: Journal>(
             return Err(LiveFault::Text(fault));
         }
     };
-    answer(scheduler, outbox, heard, wording)?;
+    make_room(scheduler, outbox, writer, journal, asks_stats(&heard))?;
+    answer(scheduler, outbox, heard, wording, journal.written())?;
     Ok(())
 }
 

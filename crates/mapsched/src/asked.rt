@@ -41,6 +41,9 @@ pub(crate) fn journal_form_of(audit: &ArgMatches) -> JournalForm {
     if audit.get_flag("json") {
         return JournalForm::Json;
     }
+    if audit.get_flag("explain") {
+        return JournalForm::Explained;
+    }
     JournalForm::Line
 }
 

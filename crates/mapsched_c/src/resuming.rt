@@ -33,7 +33,7 @@ fn resume(alloc: Global, scheduler: &mut Handle, journal: &[u8], place: &mut usi
     let mut unread = journal;
     let (auditor, torn) = match judge_journal(alloc, &mut unread) {
         Ok(Judged::Legal(auditor, torn)) => (auditor, torn),
-        Ok(Judged::Illegal(entry)) => {
+        Ok(Judged::Illegal(entry, _)) => {
             *place = entry as usize;
             return status::ILLEGAL;
         }

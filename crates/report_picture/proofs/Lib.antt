@@ -1,4 +1,5 @@
 pub mod Enough
+pub mod Octaves
 pub mod Filling
 pub mod Widths
 pub mod Marks

@@ -1,16 +1,17 @@
 -- The delays of requests by rank.
-use Rattle.std.specs.Prelude.{ℕ, ◌+◌, ◌*◌, ◌/◌, ◌==◌, nat_le, Bool, if◌then◌else◌, max, List, [], ◌∷◌, ◌++◌, codes}
+use Rattle.std.specs.Prelude.{ℕ, ◌*◌, ◌==◌, nat_le, Bool, if◌then◌else◌, List, [], ◌∷◌, ◌++◌, codes}
 use Rattle.std.specs.Prelude.{flat_map, length, slice_index_or, Option, None, Some}
 use Rattle.std.specs.List.{range_with_len}
 use Rattle.sched_report.specs.declared.life.TheConstants.{POLLED}
 use Rattle.sched_report.specs.declared.ranks.RankSums.{RankSums}
 use Rattle.sched_report.specs.declared.ranks_told.RankTold.{RankTold}
 use Rattle.report_picture.specs.declared.spread.Spread.{Spread}
-use Rattle.report_picture.specs.declared.spread.Scale.{Scale}
+use Rattle.report_picture.specs.declared.scale.Scale.{Scale}
 use Rattle.report_picture.specs.declared.ranks.TheConstants.{NO_RANK}
 use Rattle.report_picture.specs.Filled.{filled}
 use Rattle.report_picture.specs.Axis.{place, round_step, microseconds}
-use Rattle.report_picture.specs.Course.{or_zero}
+use Rattle.report_picture.specs.Scale.{scale_of, delay_place}
+use Rattle.report_picture.specs.Decades.{decade_ticks}
 
 -- these delays, where there are all four
 unfoldable pub spread_with : Option ℕ → Option ℕ → Option ℕ → Option ℕ → Option Spread
@@ -22,19 +23,6 @@ spread_with least middle p99 greatest = None
 abbrev pub spread_of : RankTold → Option Spread
 spread_of r = spread_with r.numbers.sums.least r.numbers.middle r.numbers.p99 r.numbers.sums.greatest
 
--- the greatest delay of some ranks
-abbrev pub most_of : List RankTold → ℕ
-most_of [] = 0
-most_of (r ∷ rs) = max (or_zero r.numbers.sums.greatest) (most_of rs)
-
--- the scale of delays up to this one: it ends at the tenth of a millisecond, 16 ticks, that it reaches
-abbrev pub scale_to : ℕ → ℕ → Scale
-scale_to ticks most = record { ticks = ticks; tenths = (most * ticks + 15) / 16 }
-
--- where a delay stands, in tenths of a unit, where 640 units are the whole scale
-abbrev pub delay_place : Scale → ℕ → ℕ
-delay_place s delay = place 6400 (delay * s.ticks) (16 * s.tenths)
-
 -- the tick of so many tenths of a millisecond over so many rows
 unfoldable pub delay_tick : Scale → ℕ → ℕ → List ℕ
 delay_tick s rows n =
@@ -43,9 +31,18 @@ delay_tick s rows n =
     (place 6400 n s.tenths ∷ (32 * rows) ∷ place 6400 n s.tenths ∷ n ∷ [])
     else []
 
--- the ticks of delays
+-- the ticks of a linear axis
+abbrev pub even_ticks : Scale → ℕ → List ℕ
+even_ticks s rows = flat_map (λ i. delay_tick s rows (round_step s.tenths * i)) (range_with_len 0 11)
+
+-- the ticks of delays, on an axis that is logarithmic where it begins at one
+abbrev pub ticks_from : Option ℕ → Scale → ℕ → List ℕ
+ticks_from None s rows = even_ticks s rows
+ticks_from (Some start) s rows = decade_ticks s start rows
+
+-- the same, by the scale alone
 abbrev pub delay_ticks : Scale → ℕ → List ℕ
-delay_ticks s rows = flat_map (λ i. delay_tick s rows (round_step s.tenths * i)) (range_with_len 0 11)
+delay_ticks s rows = ticks_from s.start s rows
 
 -- the name of a rank
 unfoldable pub rank_text : ℕ → List ℕ
@@ -108,11 +105,16 @@ row_text s replaced ranks i =
 abbrev pub rows_text : Scale → Bool → List RankTold → List ℕ
 rows_text s replaced ranks = flat_map (row_text s replaced ranks) (range_with_len 0 (length ranks))
 
+-- the end of what the delays are: whether their axis is logarithmic
+unfoldable pub title_end : Option ℕ → List ℕ
+title_end None = codes "to the end of the data grant that served it.</text>\n"
+title_end (Some start) = codes "to the end of the data grant that served it. The axis is logarithmic.</text>\n"
+
 -- what the delays are
-unfoldable pub delays_title : List ℕ
-delays_title =
+unfoldable pub delays_title : Option ℕ → List ℕ
+delays_title start =
     codes "<text class='head' x='96' y='492'>Delays of requests by rank, in ms: from where a request was heard "
-    ++ codes "to the end of the data grant that served it.</text>\n"
+    ++ title_end start
 
 -- what their marks are for
 unfoldable pub marks_legend : List ℕ
@@ -124,8 +126,8 @@ marks_legend =
     ++ codes "<path class='most' d='M690 505v16'/><text x='702' y='517'>greatest</text>\n")))
 
 -- what the delays are, and what their marks are for
-unfoldable pub delays_legend : List ℕ
-delays_legend = delays_title ++ marks_legend
+unfoldable pub delays_legend : Option ℕ → List ℕ
+delays_legend start = delays_title start ++ marks_legend
 
 -- the names of the columns behind those of delays
 unfoldable pub last_columns : Bool → List ℕ
@@ -152,5 +154,6 @@ no_rows_text rows =
 -- the delays of ranks, on channels whose minislots have so many ticks
 unfoldable pub delays_text : ℕ → Bool → List RankTold → List ℕ
 delays_text ticks replaced ranks =
-    delays_legend ++ (columns_text replaced ++ (delay_ticks (scale_to ticks (most_of ranks)) (length ranks)
-    ++ (rows_text (scale_to ticks (most_of ranks)) replaced ranks ++ (no_rows_text (length ranks) ++ codes "</g>\n"))))
+    delays_legend (scale_of ticks ranks).start ++ (columns_text replaced
+    ++ (delay_ticks (scale_of ticks ranks) (length ranks)
+    ++ (rows_text (scale_of ticks ranks) replaced ranks ++ (no_rows_text (length ranks) ++ codes "</g>\n"))))

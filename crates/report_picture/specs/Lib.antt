@@ -1,5 +1,8 @@
 pub mod Filled
 pub mod Axis
+pub mod Levels
+pub mod Scale
+pub mod Decades
 pub mod OverTime
 pub mod Kept
 pub mod Course

@@ -1,27 +1,17 @@
 //! The delays of requests by rank.
 
 ghost use Rattle.std.specs.Prelude.{◌≡◌, ◌<◌, ◌≤◌, ◌^◌, length};
-ghost use Rattle.report_picture.specs.Delays.{most_of, delay_tick, delay_ticks, delays_title, marks_legend};
-ghost use Rattle.report_picture.specs.Delays.{delays_legend, last_columns, columns_text, delays_text};
+ghost use Rattle.report_picture.specs.Delays.{delay_tick, even_ticks, delay_ticks, title_end, delays_title};
+ghost use Rattle.report_picture.specs.Delays.{marks_legend, delays_legend, last_columns, columns_text, delays_text};
 ghost use Rattle.text_stream.specs.Writing.{Puts};
 
 use crate::axis::{place, round_step};
+use crate::decades::put_decade_ticks;
 use crate::filled::put_filled;
 use crate::rows::{put_no_rows, put_rows};
-use crate::spread::{Scale, scale_to};
+use crate::scale::{Scale, scale_of};
 use sched_report::RankTold;
 use text_stream::{Sink, TextBuffer, TextFault};
-
-// The greatest delay of some ranks.
-fn most_of(ranks: &[RankTold]) -> u64
-    ensures { result ≡ most_of ranks.now }
-{
-    let mut most = 0;
-    for told in ranks {
-        most = most.max(told.numbers.sums.greatest.unwrap_or(0));
-    }
-    most
-}
 
 // The tick of so many tenths of a millisecond over so many rows.
 #[tactic(auto, unfolding(crate::specs::Delays::delay_tick))]
@@ -49,6 +39,25 @@ fn put_delay_tick<W: Sink>(
     )
 }
 
+// The ticks of a linear axis.
+fn put_even_ticks<W: Sink>(
+    lines: &mut TextBuffer,
+    writer: &mut W,
+    scale: Scale,
+    rows: usize,
+) -> Result<(), TextFault>
+    requires small { scale.tenths < 2 ^ 96 }
+    requires few { rows ≤ 9 }
+    ensures { Puts W.contents W.has_failed writer.old writer.new lines.old lines.new
+        (even_ticks scale rows) result }
+{
+    let step = round_step(scale.tenths);
+    for i in 0..11usize {
+        put_delay_tick(lines, writer, scale, rows, step * i as u128)?;
+    }
+    Ok(())
+}
+
 // The ticks of delays.
 fn put_delay_ticks<W: Sink>(
     lines: &mut TextBuffer,
@@ -61,27 +70,39 @@ fn put_delay_ticks<W: Sink>(
     ensures { Puts W.contents W.has_failed writer.old writer.new lines.old lines.new
         (delay_ticks scale rows) result }
 {
-    let step = round_step(scale.tenths);
-    for i in 0..11usize {
-        put_delay_tick(lines, writer, scale, rows, step * i as u128)?;
+    match scale.start {
+        None => put_even_ticks(lines, writer, scale, rows),
+        Some(start) => put_decade_ticks(lines, writer, scale, start, rows),
     }
-    Ok(())
+}
+
+// The end of what the delays are: whether their axis is logarithmic.
+#[tactic(auto, unfolding(crate::specs::Delays::title_end))]
+fn title_end(start: Option<u64>) -> &'static [u8]
+    ensures { result.now ≡ title_end start }
+{
+    match start {
+        None => b"to the end of the data grant that served it.</text>\n",
+        Some(_) =>
+            b"to the end of the data grant that served it. The axis is logarithmic.</text>\n",
+    }
 }
 
 // What the delays are.
 #[tactic(auto, unfolding(crate::specs::Delays::delays_title))]
-fn put_delays_title<W: Sink>(lines: &mut TextBuffer, writer: &mut W) -> Result<(), TextFault>
+fn put_delays_title<W: Sink>(
+    lines: &mut TextBuffer,
+    writer: &mut W,
+    start: Option<u64>,
+) -> Result<(), TextFault>
     ensures { Puts W.contents W.has_failed writer.old writer.new lines.old lines.new
-        (delays_title) result }
+        (delays_title start) result }
 {
     lines.put(
         writer,
         b"<text class='head' x='96' y='492'>Delays of requests by rank, in ms: from where a request was heard ",
     )?;
-    lines.put(
-        writer,
-        b"to the end of the data grant that served it.</text>\n",
-    )
+    lines.put(writer, title_end(start))
 }
 
 // What their marks are for.
@@ -111,11 +132,15 @@ fn put_marks_legend<W: Sink>(lines: &mut TextBuffer, writer: &mut W) -> Result<(
 
 // What the delays are, and what their marks are for.
 #[tactic(auto, unfolding(crate::specs::Delays::delays_legend))]
-fn put_delays_legend<W: Sink>(lines: &mut TextBuffer, writer: &mut W) -> Result<(), TextFault>
+fn put_delays_legend<W: Sink>(
+    lines: &mut TextBuffer,
+    writer: &mut W,
+    start: Option<u64>,
+) -> Result<(), TextFault>
     ensures { Puts W.contents W.has_failed writer.old writer.new lines.old lines.new
-        (delays_legend) result }
+        (delays_legend start) result }
 {
-    put_delays_title(lines, writer)?;
+    put_delays_title(lines, writer, start)?;
     put_marks_legend(lines, writer)
 }
 
@@ -187,8 +212,8 @@ pub(crate) fn put_delays<W: Sink>(
     ensures { Puts W.contents W.has_failed writer.old writer.new lines.old lines.new
         (delays_text ticks replaced ranks.now) result }
 {
-    let scale = scale_to(ticks, most_of(ranks));
-    put_delays_legend(lines, writer)?;
+    let scale = scale_of(ticks, ranks);
+    put_delays_legend(lines, writer, scale.start)?;
     put_columns(lines, writer, replaced)?;
     put_delay_ticks(lines, writer, scale, ranks.len())?;
     put_rows(lines, writer, scale, replaced, ranks)?;

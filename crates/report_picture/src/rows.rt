@@ -5,7 +5,8 @@ ghost use Rattle.report_picture.specs.Delays.{rank_text, unserved_text, counts_t
 ghost use Rattle.text_stream.specs.Writing.{Puts};
 
 use crate::filled::put_filled;
-use crate::spread::{Scale, put_spread, spread_with};
+use crate::scale::Scale;
+use crate::spread::{put_spread, spread_with};
 use sched_report::{POLLED, RankSums, RankTold};
 use text_stream::{Sink, TextBuffer, TextFault};
 

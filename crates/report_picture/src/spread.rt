@@ -1,12 +1,12 @@
 //! How the delays of a rank are spread, and how that is drawn.
 
 ghost use Rattle.std.specs.Prelude.{◌≡◌, ◌<◌, ◌^◌};
-ghost use Rattle.report_picture.specs.Delays.{spread_with, scale_to, delay_place, marks_text, numbers_text};
-ghost use Rattle.report_picture.specs.Delays.{spread_text};
+ghost use Rattle.report_picture.specs.Delays.{spread_with, marks_text, numbers_text, spread_text};
 ghost use Rattle.text_stream.specs.Writing.{Puts};
 
-use crate::axis::{microseconds, place};
+use crate::axis::microseconds;
 use crate::filled::put_filled;
+use crate::scale::{Scale, delay_place};
 use text_stream::{Sink, TextBuffer, TextFault};
 
 // How the delays of a rank are spread, in minislots.
@@ -16,15 +16,6 @@ pub(crate) struct Spread {
     pub(crate) middle: u64,
     pub(crate) p99: u64,
     pub(crate) greatest: u64,
-}
-
-// The scale of delays.
-#[derive(Clone, Copy)]
-pub(crate) struct Scale {
-    // The ticks of a minislot.
-    pub(crate) ticks: u32,
-    // So many tenths of a millisecond are its end.
-    pub(crate) tenths: u128,
 }
 
 // These delays, where there are all four.
@@ -43,24 +34,6 @@ pub(crate) fn spread_with(
         p99: p99?,
         greatest: greatest?,
     })
-}
-
-// The scale of delays up to this one.
-pub(crate) fn scale_to(ticks: u32, most: u64) -> Scale
-    ensures value { result ≡ scale_to ticks most }
-    ensures small { result.tenths < 2 ^ 96 }
-{
-    let tenths = (u128::from(most) * u128::from(ticks) + 15) / 16;
-    Scale { ticks, tenths }
-}
-
-// Where a delay stands, in tenths of a unit.
-fn delay_place(scale: Scale, delay: u64) -> u128
-    requires { scale.tenths < 2 ^ 96 }
-    ensures { result ≡ delay_place scale delay }
-{
-    let ticks = u128::from(delay) * u128::from(scale.ticks);
-    place(6400, ticks, 16 * scale.tenths)
 }
 
 // The marks of delays: from the least to the 99th, to the greatest, at the 99th and at the middle.

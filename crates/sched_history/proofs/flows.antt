@@ -8,3 +8,4 @@ pub mod ReplaceCall
 pub mod RestCalls
 pub mod ChangeCall
 pub mod Quiet
+pub mod Waiting

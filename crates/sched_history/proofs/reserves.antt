@@ -1,5 +1,6 @@
 -- The Reserves of a history, which MAPs meet, and the header of the next MAP.
 pub mod Aging
+pub mod Lapsing
 pub mod ReservesAfter
 pub mod HeaderAfter
 pub mod GoodReserves

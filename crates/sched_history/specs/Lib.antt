@@ -23,3 +23,4 @@ pub mod Ranging
 pub mod Facts
 pub mod Audit
 pub mod Lending
+pub mod Backlog

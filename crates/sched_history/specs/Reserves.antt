@@ -1,6 +1,6 @@
 -- The opportunities that were reserved in a history and wait for a MAP.
 use Rattle.std.specs.Prelude.{ℕ, suc, ◌+◌, ◌/◌, Bool, false, not, nat_lt, List, [], ◌∷◌, ◌++◌, map, filter}
-use Rattle.std.specs.Prelude.{take, Option, None, Some, if◌then◌else◌}
+use Rattle.std.specs.Prelude.{take, Option, None, Some, if◌then◌else◌, nat_le, count_by}
 use Rattle.minislots.specs.declared.config.Config.{Config}
 use Rattle.map_codec.specs.declared.element.Element.{Element}
 use Rattle.periodic.specs.declared.placement.Spot.{Spot}
@@ -63,6 +63,18 @@ abbrev pub unmarked : List Bool → List Reserve → List Reserve
 unmarked [] rs = rs
 unmarked (b ∷ bs) [] = []
 unmarked (b ∷ bs) (r ∷ rs) = if b then unmarked bs rs else r ∷ unmarked bs rs
+
+-- a Reserve that lapses with one MAP more, which does not settle, where it does not meet it
+abbrev pub is_last : Reserve → Bool
+is_last r = nat_le last_map (r.maps + 1)
+
+-- how many Reserves lapse with a MAP that does not settle, by its marks at those that it meets
+abbrev pub lapses_of : List Bool → List Reserve → ℕ
+lapses_of met rs = count_by is_last (unmarked met rs)
+
+-- how many lapse with a MAP, by its marks at those that it meets: none where it settles
+abbrev pub lapses_with : Bool → List Bool → List Reserve → ℕ
+lapses_with settles met rs = if settles then 0 else lapses_of met rs
 
 -- the Reserves but those at places at which the test holds
 abbrev pub left_by : (ℕ → Bool) → List Reserve → List Reserve

@@ -15,4 +15,4 @@ pub use sched_calls::{
     Call, Entry, MAX_ENTRIES, MAX_RESERVES, MAX_SCRIPTS, MAX_WHOLE_HISTORY, Refusal, Reply,
     Unrecorded,
 };
-pub use scheduler::{HandedOver, Planned, Scheduler};
+pub use scheduler::{Backlog, HandedOver, Planned, Scheduler};

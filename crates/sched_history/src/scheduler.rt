@@ -12,6 +12,7 @@ ghost use Rattle.sched_history.specs.Refusal.{refusal_of};
 ghost use Rattle.sched_history.specs.State.{RecordsWithCopy};
 
 mod answering;
+mod backlog;
 mod changing;
 mod following;
 mod handing_over;
@@ -28,6 +29,7 @@ mod under;
 
 use crate::fault::PlanFault;
 use crate::ledger::Ledger;
+pub use backlog::Backlog;
 pub use handing_over::HandedOver;
 use minislots::{Checked, Stamp};
 pub use planned::Planned;

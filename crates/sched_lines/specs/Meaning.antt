@@ -31,7 +31,7 @@ fault_words faults.Reserved =
 
 -- what a refusal means, up to its number where it has one
 abbrev pub words_before : Refusal → List ℕ
-words_before BadSid = codes "bad SID: it is 0 or above 8191"
+words_before BadSid = codes "bad SID: a flow has one from 1 to 8191, and a reserve one of its usage"
 words_before SidLive = codes "the SID is live already"
 words_before (BadFlow fault) = fault_words fault
 words_before FlowsFull = codes "no more flows: as many are live as `flows` of the configuration"
@@ -40,7 +40,8 @@ words_before NoPlace = codes "no place: the cycle has none that is lawful for th
 words_before NoFlow = codes "no flow with this SID is live"
 words_before NotAsking = codes "a flow of unsolicited grants does not ask"
 words_before BadReceiver = codes "the channel has no receiver of this number"
-words_before BadBytes = codes "bad bytes: they are 0 or above 1048560"
+words_before BadBytes =
+    codes "bad bytes: those asked for, or that its minislots carry, are above 1048560, or 0 in an ask"
 words_before (Acked slot) = codes "too old: the receiver has handed in all that it heard before "
 words_before (Ahead slot) = codes "too far: the next frame starts at "
 words_before (Backwards slot) = codes "too old: the receiver's progress is "

@@ -33,7 +33,8 @@ fn words_before(refusal: Refusal) -> &'static [u8]
     ensures { result.now ≡ words_before refusal }
 {
     match refusal {
-        Refusal::BadSid => b"bad SID: it is 0 or above 8191",
+        Refusal::BadSid =>
+            b"bad SID: a flow has one from 1 to 8191, and a reserve one of its usage",
         Refusal::SidLive => b"the SID is live already",
         Refusal::BadFlow(fault) => fault_words(fault),
         Refusal::FlowsFull => b"no more flows: as many are live as `flows` of the configuration",
@@ -44,7 +45,8 @@ fn words_before(refusal: Refusal) -> &'static [u8]
         Refusal::NoFlow => b"no flow with this SID is live",
         Refusal::NotAsking => b"a flow of unsolicited grants does not ask",
         Refusal::BadReceiver => b"the channel has no receiver of this number",
-        Refusal::BadBytes => b"bad bytes: they are 0 or above 1048560",
+        Refusal::BadBytes =>
+            b"bad bytes: those asked for, or that its minislots carry, are above 1048560, or 0 in an ask",
         Refusal::Acked(_) => b"too old: the receiver has handed in all that it heard before ",
         Refusal::Ahead(_) => b"too far: the next frame starts at ",
         Refusal::Backwards(_) => b"too old: the receiver's progress is ",

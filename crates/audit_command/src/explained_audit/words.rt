@@ -210,7 +210,7 @@ fn praise(lawful: &Reply) -> &'static str {
 /// The words on the entry at this place, which is not lawful, where this reply is.
 pub fn words_on(
     alloc: Global,
-    place: usize,
+    place: u64,
     entry: &Entry,
     lawful: &Reply,
 ) -> Result<String, AllocError> {

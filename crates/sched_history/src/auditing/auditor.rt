@@ -148,8 +148,10 @@ impl Auditor {
         Ok(Scheduler::resume(state, ledger, room))
     }
 
-    // The reply that the scheduler gives to a call after the entries that were taken.
-    pub(super) fn reply_to(self, call: Call) -> Result<Reply, AllocError>
+    /// The reply that the scheduler gives to a call after the entries that were taken, fewer than
+    /// [`MAX_WHOLE_HISTORY`]. A periodic flow may have other lawful placements than the one in the reply; every other
+    /// call has this reply alone.
+    pub fn reply_to(self, call: Call) -> Result<Reply, AllocError>
         requires { length self.history < MAX_WHOLE_HISTORY }
         ensures step { IfOk result (IsStep self.config self.history call) }
         ensures encodable { IfOk result IsEncodable }

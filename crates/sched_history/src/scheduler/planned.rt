@@ -1,7 +1,10 @@
 //! A build that is planned: all that it fills is made, and nothing is changed.
 
 ghost use Rattle.std.specs.Prelude.{◌≡◌};
+ghost use Rattle.sched_history.specs.Reserves.{reserves_of, lapses_with};
+ghost use Rattle.sched_history.specs.Settling.{settles_after};
 
+use super::Scheduler;
 use map_build::PlannedFrame;
 use sched_calls::FrameMap;
 use std::marker::Model;
@@ -37,5 +40,19 @@ impl Planned {
         ensures { result.now ≡ self.now.map }
     {
         &self.frame.map
+    }
+}
+
+impl Scheduler {
+    /// How many of the Reserves that wait lapse with a planned build: its MAP does not meet them, and is the last one
+    /// that might have. None where it settles.
+    pub fn lapses(&self, planned: &Planned) -> u64
+        ensures { result ≡ lapses_with (settles_after self.now.config self.now.history) planned.now.met
+            (reserves_of self.now.config self.now.history) }
+    {
+        if self.state.settles() {
+            return 0;
+        }
+        self.state.reserves.lapses(&planned.frame.met)
     }
 }

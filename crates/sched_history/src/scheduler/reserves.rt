@@ -1,10 +1,10 @@
 //! The Reserves that are neither met nor lapsed, in a fixed room.
 
 ghost use Rattle.std.specs.Prelude.{◌≡◌, ◌<◌, ◌≤◌, ◌+◌, ◌++◌, ◌∷◌, [], false, map, take, drop, length, nat_le, get_or};
-ghost use Rattle.std.specs.Prelude.{if◌then◌else◌};
+ghost use Rattle.std.specs.Prelude.{not, ◌&&◌, if◌then◌else◌};
 ghost use Rattle.sched_calls.specs.declared.call.TheConstants.{MAX_RESERVES};
 ghost use Rattle.map_build.specs.declared.TheConstants.{MAX_WAITING};
-ghost use Rattle.sched_history.specs.Reserves.{new_reserve, aged, left_of, unmarked};
+ghost use Rattle.sched_history.specs.Reserves.{new_reserve, aged, left_of, unmarked, is_last, lapses_of};
 
 use map_build::MAX_WAITING;
 use sched_calls::{MAX_RESERVES, Opportunity, Usage};
@@ -53,6 +53,17 @@ fn keep(items: &mut [Reserve; MAX_RESERVES], kept: usize, reserve: Reserve, is_m
         maps: reserve.maps + 1,
     };
     kept + 1
+}
+
+// How many lapse of a Reserve with one MAP more: it does, unless the MAP met it or it has MAPs left.
+fn lapse_of(reserve: Reserve, is_met: bool) -> u64
+    ensures value { result ≡ (if not is_met && is_last reserve then 1 else 0) }
+    ensures most { result ≤ 1 }
+{
+    if is_met || reserve.maps < LAST_MAP - 1 {
+        return 0;
+    }
+    1
 }
 
 // Reserves in the order in which they were accepted. Takes no memory.
@@ -127,6 +138,17 @@ impl Reserves {
             waiting[place] = self.items[place].opportunity;
         }
         waiting
+    }
+
+    // How many lapse with a MAP that met those at the places of these marks, and does not settle.
+    pub(crate) fn lapses(&self, met: &[bool; MAX_WAITING]) -> u64
+        ensures { result ≡ lapses_of met.now self.now }
+    {
+        let mut lapses = 0u64;
+        for place in 0..self.count {
+            lapses += lapse_of(self.items[place], is_marked(met, place));
+        }
+        lapses
     }
 
     // The Reserves after a MAP that met those at the places of these marks. One that settles leaves them.

@@ -9,6 +9,6 @@ returns c =
     let field = c.args.field in
     let n = c.in_ok-number.number in
     let taken = c.in_ok-number.ensures in
-    λ depth s. number_noted depth c.args.reader.now c.take_spelled_key.new.self c.take_number.new.self s
+    λ depth s. number_noted depth c.args.reader.now c.take_spelled_key.new.self c.take_short_number.new.self s
     (key_of field) n ((rw c.if-not-take_spelled_key.false at c.take_spelled_key.ensures)
     (key_of field) (plain_key field) c.requires) taken.0 taken.1

@@ -12,6 +12,5 @@ returns-then-is_long-clause-room c =
       arith,
       holds,
       c.len.ensures,
-      fewer-filter still_waits queue.items,
-      queue.ok.0,
+      fewer-filter still_waits queue,
     )) c.with_capacity.ensures.capacity

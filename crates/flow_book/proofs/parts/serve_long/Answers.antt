@@ -11,8 +11,8 @@ pub serve_one-granted-requires-clause-begun : goal.serve_one-granted-requires-cl
 serve_one-granted-requires-clause-begun c =
     let has = c.requires.started.1 in
     let next =
-    (rw c.deref.ensures.value at c.in_ok-standing.ensures.next) c.requires.started.0 has in
-    let here = rw c.deref-2.ensures.value at c.one_at-waiting.ensures in
+    (rw (c.all.ensures, c.deref.ensures.value) at c.in_ok-standing.ensures.next) c.requires.started.0 has in
+    let here = rw (c.all-2.ensures, c.deref-2.ensures.value) at c.one_at-waiting.ensures in
     next-begun c.args.config.now c.requires.started.0 c.args.tiers.now c.args.queue.now c.args.served.now.items c.args.start
     c.args.room.slots c.in_ok-standing.standing c.one_at-waiting.result has next here
 
@@ -31,8 +31,8 @@ put_served-requires-clause-here c =
     let slots = c.args.room.slots in
     let at = c.in_ok-standing.standing in
     let w = c.one_at-waiting.result in
-    let next = (rw c.deref.ensures.value at c.in_ok-standing.ensures.next) items has in
-    let here = rw c.deref-2.ensures.value at c.one_at-waiting.ensures in
+    let next = (rw (c.all.ensures, c.deref.ensures.value) at c.in_ok-standing.ensures.next) items has in
+    let here = rw (c.all-2.ensures, c.deref-2.ensures.value) at c.one_at-waiting.ensures in
     let waits = next-waits config items queue served c.args.start slots at w here next in
     let late =
     next-later config items c.args.tiers.now queue served c.args.start slots at w has next here c.serve_one-granted.new.waiting.turn
@@ -45,8 +45,8 @@ returns-clause-next c = λ items has.
     let served = c.args.served.now.items in
     let at = c.in_ok-standing.standing in
     let w = c.one_at-waiting.result in
-    let next = (rw c.deref.ensures.value at c.in_ok-standing.ensures.next) items has in
-    let here = rw c.deref-2.ensures.value at c.one_at-waiting.ensures in
+    let next = (rw (c.all.ensures, c.deref.ensures.value) at c.in_ok-standing.ensures.next) items has in
+    let here = rw (c.all-2.ensures, c.deref-2.ensures.value) at c.one_at-waiting.ensures in
     let waits = next-waits c.args.config.now items queue served c.args.start c.args.room.slots at w here next in
     record {
       at = at;

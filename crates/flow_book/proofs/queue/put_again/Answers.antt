@@ -41,7 +41,7 @@ returns c =
     let before = c.requires.queue in
     let here = slice_get_read items (length items) place f refl c.requires.within c.at.ensures in
     let others =
-    among-others place before.0 items c.take_out.new.queue.items before.1 (c.take_out.ensures before.0 before.2) in
+    among-others place before.0 items c.take_out.new.queue before.1 (c.take_out.ensures before.0 before.2) in
     pass-among c.requires.book.0 items c.requires.book.1 (λ other. other ≢ place) (λ other. Unit {0})
-    c.take_out.new.queue.items place f here (λ k may. cases_eq k place) (λ k other. tt) others
+    c.take_out.new.queue place f here (λ k may. cases_eq k place) (λ k other. tt) others
     (λ waits. absurd (omega (arith, c.waiting_of-waiting.ensures.wants, c.if-waiting-gt0.false)))

@@ -42,18 +42,18 @@ loop-place-preserved c =
     c.at.ensures in
     elim c.if-waiting-gt0.branch [
       | then-waiting-gt0+in_ok-put_in_turn w ↦ rw (w.queue-is, w.in_ok-put_in_turn.ensures.put)
-          (put-among c.requires.0 items c.requires.1 (λ k. k < i) (λ k. k < i + 1) c.loop-place.queue.items i f here
+          (put-among c.requires.0 items c.requires.1 (λ k. k < i) (λ k. k < i + 1) c.loop-place.queue i f here
           (only i) (λ k lt. omega arith) c.loop-place.invariant
           c.waiting_of-waiting.result c.waiting_of-waiting.ensures.place c.waiting_of-waiting.ensures.turn
           c.waiting_of-waiting.ensures.wants c.waiting_of-waiting.ensures.sustained c.waiting_of-waiting.ensures.tier
           (λ lt. absurd (omega arith)) (omega arith))
       | else-waiting-gt0 w ↦ rw w.queue-is
-          (pass-among c.requires.0 items c.requires.1 (λ k. k < i) (λ k. k < i + 1) c.loop-place.queue.items i f here
+          (pass-among c.requires.0 items c.requires.1 (λ k. k < i) (λ k. k < i + 1) c.loop-place.queue i f here
           (only i) (λ k lt. omega arith) c.loop-place.invariant
           (λ waits. absurd (omega (arith, c.waiting_of-waiting.ensures.wants, w.if-waiting-gt0.false))))
     ]
 
 pub returns : goal.returns
 returns c =
-    whole-among c.args.flows.now (λ k. k < c.loop-place.place) c.loop-place.queue.items
+    whole-among c.args.flows.now (λ k. k < c.loop-place.place) c.loop-place.queue
     (λ k lt. omega (arith, c.loop-place-test.false)) c.loop-place.invariant

@@ -30,6 +30,6 @@ returns c =
     c.deref.ensures.value ∙ filter_same _ still_waits _ (λ x b f' k. search rules) _ _ c.retain.ensures.filtered in
     on-ok c.put_all.result _ _
     (λ put k items book parts. subst (IsQueue items)
-    (sym (put ∙ ap (λ ws. all_put_in ws c.drop_idle.new.queue.items) left
+    (sym (put ∙ ap (λ ws. all_put_in ws c.drop_idle.new.self) left
     ∙ ap (all_put_in (filter still_waits c.args.served.items)) c.drop_idle.ensures))
-    (merged k items book c.args.queue.now.items c.args.served.items parts)) c.put_all.ensures
+    (merged k items book c.args.queue.now c.args.served.items parts)) c.put_all.ensures

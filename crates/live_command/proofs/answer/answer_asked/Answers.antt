@@ -16,9 +16,10 @@ returns-in-Call-clause-unput c = rw c.in-Call.is (where_err c.answer_call.result
 
 pub returns-in-Stats-clause-ok : goal.returns-in-Stats-clause-ok
 returns-in-Stats-clause-ok c = rw c.in-Stats.is (both_ok c.put_stats.result
-    (λ put since p same counted. answered_stats c.args.wording p _ _ _ put c.put_stats.ensures.total since same counted)
+    (λ put since p same counted. answered_stats c.args.wording p _ _ _ _ _ _ c.backlog.ensures put
+    c.put_stats.ensures.total since same counted)
     c.put_stats.ensures.ok c.put_stats.ensures.since)
 
 pub returns-in-Stats-clause-unput : goal.returns-in-Stats-clause-unput
 returns-in-Stats-clause-unput c = rw c.in-Stats.is (always_err c.put_stats.result
-    (λ p same counted. said_stats c.args.wording p c.args.scheduler.now c.args.outbox.now same counted))
+    (λ p same counted. said_stats c.args.wording p c.args.scheduler.now c.args.outbox.now 0 0 same counted))

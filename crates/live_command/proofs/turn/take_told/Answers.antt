@@ -1,4 +1,4 @@
--- There is room, and then the line is read and answered.
+-- The line is read, there is room, and then it is answered.
 use Rattle.std.proofs.lemmas.Result.{err_from_is_err_and}
 use Rattle.live_command.proofs.Saying.{AnswersLines-heard, SaysOne-line}
 use Rattle.live_command.proofs.Talking.{Talk-line, Stopped-quiet, Stopped-unput}
@@ -6,20 +6,19 @@ use Rattle.live_command.proofs.turn.take_told.Goals as goal
 
 pub returns-in_err-make_room-clause-talk : goal.returns-in_err-make_room-clause-talk
 returns-in_err-make_room-clause-talk g c = λ s v turns left same tells.
-    let p = err_from_is_err_and c.from_residual.result c.from_residual.ensures.1 in
+    let exit = c.from_residual-in_err-make_room in
+    let p = err_from_is_err_and exit.result exit.ensures.1 in
     rw p.1 (c.in_err-make_room.ensures.talk s v turns _ tells.talk)
 
 pub returns-in_err-settle-in-Err-clause-talk : goal.returns-in_err-settle-in-Err-clause-talk
 returns-in_err-settle-in-Err-clause-talk g c = λ s v turns left same tells.
-    let exit = c.from_residual-in_err-settle-in-Err in
+    let exit = c.from_residual in
     let p = err_from_is_err_and exit.result exit.ensures.1 in
-    let room = c.in_ok-make_room.ensures.talk s v turns _ tells.talk in
-    rw p.1 (c.in_err-settle-in-Err.ensures.talk s v turns _ room)
+    rw p.1 (c.in_err-settle-in-Err.ensures.talk s v turns _ tells.talk)
 
 pub returns-in-Err-clause-talk : goal.returns-in-Err-clause-talk
 returns-in-Err-clause-talk g c = λ s v turns left same tells.
-    let room = c.in_ok-make_room.ensures.talk s v turns _ tells.talk in
-    Stopped-quiet s turns _ _ _ _ _ (c.in_ok-settle-in-Err.ensures.talk s v turns _ room).0
+    Stopped-quiet s turns _ _ _ _ _ (c.in_ok-settle-in-Err.ensures.talk s v turns _ tells.talk).0
 
 pub returns-in_err-answer-clause-talk : goal.returns-in_err-answer-clause-talk
 returns-in_err-answer-clause-talk g c = λ s v turns left same tells.

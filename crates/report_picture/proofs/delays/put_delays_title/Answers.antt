@@ -5,4 +5,5 @@ use Rattle.report_picture.proofs.delays.put_delays_title.Goals as goal
 
 pub returns : goal.returns
 unfolding delays_title
-returns g c = then_text _ _ _ _ _ _ _ _ _ c.in_ok-put.ensures c.put-2.ensures
+returns g c = then_text _ _ _ _ _ _ _ _ _ c.in_ok-put.ensures
+    (rw c.title_end.ensures at c.put-2.ensures)

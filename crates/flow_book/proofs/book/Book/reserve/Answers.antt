@@ -25,7 +25,7 @@ invariant_of-self-else-not-self c = record {
   book = book c.self.inside.channel c.self.inside.flows c.reserve_each.new.flows c.reserve_each.ensures.same
       c.reserve_each.ensures.sums c.self.invariant.book;
   order = λ known. same-queue c.self.inside.flows c.reserve_each.new.flows c.reserve_each.ensures.same
-      c.reserve_each.ensures.entries c.self.inside.queue.items (c.self.invariant.order known);
+      c.reserve_each.ensures.entries c.self.inside.queue (c.self.invariant.order known);
   lined = rw c.reserve_each.ensures.same c.self.invariant.lined;
 }
 

@@ -10,8 +10,8 @@ number_where-after-requires-clause-within c =
     granted-within c.requires.book.0 c.args.flows.now c.requires.book.1 c.args.place c.at.result.now c.requires.within
     c.at.ensures
 
-pub returns-then-self : goal.returns-then-self
-returns-then-self c = λ c' old book changed is.
+pub returns-then-is_known : goal.returns-then-is_known
+returns-then-is_known c = λ c' old book changed is.
     let flows = c.args.flows.now in
     let here = slice_get_read flows (length flows) c.args.place c.at.result.now refl c.requires.within c.at.ensures in
     c.follow.ensures (map live old) (map live flows)

@@ -11,7 +11,7 @@ use Rattle.flow_book.proofs.overlay.Overlay.put_into.Goals as goal
 pub take_over-requires : goal.take_over-requires
 take_over-requires c =
     let inside = c.self.inside in
-    let whole = all_of inside.is_long inside.few.items inside.many.items in
+    let whole = all_of inside.is_long inside.few.items inside.many in
     let o = c.self.invariant.overlay in
     let book = rw (← c.self.view_is) at c.requires.0 in
     let before = rw (← c.self.view_is) at c.requires.1 in
@@ -23,20 +23,20 @@ take_over-requires c =
 pub merge-requires : goal.merge-requires
 merge-requires c =
     let inside = c.self.inside in
-    let whole = all_of inside.is_long inside.few.items inside.many.items in
+    let whole = all_of inside.is_long inside.few.items inside.many in
     let o = c.self.invariant.overlay in
     let parts = order-in inside.is_long o.items whole inside.served.items o.order in (
       inside.channel,
       o.items,
       o.book,
-      subst (λ b. IsQueueIn o.items (all_of b inside.few.items inside.many.items)
+      subst (λ b. IsQueueIn o.items (all_of b inside.few.items inside.many)
           inside.served.items) c.if-self.true parts,
     )
 
 pub returns-then-is_err-clause-book : goal.returns-then-is_err-clause-book
 returns-then-is_err-clause-book c =
     let inside = c.self.inside in
-    let whole = all_of inside.is_long inside.few.items inside.many.items in
+    let whole = all_of inside.is_long inside.few.items inside.many in
     let o = c.self.invariant.overlay in
     let book = rw (← c.self.view_is) at c.requires.0 in
     let before = rw (← c.self.view_is) at c.requires.1 in
@@ -50,7 +50,7 @@ returns-then-is_err-clause-book c =
 pub returns-then-self-clause-book : goal.returns-then-self-clause-book
 returns-then-self-clause-book c =
     let inside = c.self.inside in
-    let whole = all_of inside.is_long inside.few.items inside.many.items in
+    let whole = all_of inside.is_long inside.few.items inside.many in
     let o = c.self.invariant.overlay in
     let book = rw (← c.self.view_is) at c.requires.0 in
     let before = rw (← c.self.view_is) at c.requires.1 in
@@ -68,7 +68,7 @@ on-ok (Err e) P whole holds = absurd (cc)
 pub returns-then-self-clause-order : goal.returns-then-self-clause-order
 returns-then-self-clause-order c =
     let inside = c.self.inside in
-    let whole = all_of inside.is_long inside.few.items inside.many.items in
+    let whole = all_of inside.is_long inside.few.items inside.many in
     let o = c.self.invariant.overlay in
     let book = rw (← c.self.view_is) at c.requires.0 in
     let before = rw (← c.self.view_is) at c.requires.1 in
@@ -78,15 +78,15 @@ returns-then-self-clause-order c =
     let is =
     (rw (c.deref.ensures.value, c.deref-then-self.ensures.value) at c.take_over.ensures) inside.channel o.items can o.shows in
     let parts =
-    same-parts inside.channel c.take_over.new.flows o.items inside.many.items inside.served.items is.book o.book is.shows
-    (subst (λ b. IsQueueIn o.items (all_of b inside.few.items inside.many.items) inside.served.items) c.if-self.true
+    same-parts inside.channel c.take_over.new.flows o.items inside.many inside.served.items is.book o.book is.shows
+    (subst (λ b. IsQueueIn o.items (all_of b inside.few.items inside.many) inside.served.items) c.if-self.true
     (order-in inside.is_long o.items whole inside.served.items o.order)) in
     on-ok c.merge.result _ (sym c.is_err.ensures.value ∙ c.if-is_err.false) c.merge.ensures inside.channel c.take_over.new.flows is.book parts
 
 pub take_over-requires-2 : goal.take_over-requires-2
 take_over-requires-2 c =
     let inside = c.self.inside in
-    let whole = all_of inside.is_long inside.few.items inside.many.items in
+    let whole = all_of inside.is_long inside.few.items inside.many in
     let o = c.self.invariant.overlay in
     let book = rw (← c.self.view_is) at c.requires.0 in
     let before = rw (← c.self.view_is) at c.requires.1 in
@@ -95,13 +95,13 @@ take_over-requires-2 c =
     inside.tiers.items _ inside.first c.args.flows.now o book before c.if-self.false in
     let few : CanBeTaken inside.channel c.args.flows.now o.items inside.tiers.items inside.few.items =
     subst (λ b. CanBeTaken inside.channel c.args.flows.now o.items inside.tiers.items
-    (all_of b inside.few.items inside.many.items)) c.if-self.false can in
+    (all_of b inside.few.items inside.many)) c.if-self.false can in
     (inside.channel, o.items, rw (c.deref-2.ensures.value, c.deref-3.ensures.value) few, o.shows)
 
 pub returns-clause-book : goal.returns-clause-book
 returns-clause-book c =
     let inside = c.self.inside in
-    let whole = all_of inside.is_long inside.few.items inside.many.items in
+    let whole = all_of inside.is_long inside.few.items inside.many in
     let o = c.self.invariant.overlay in
     let book = rw (← c.self.view_is) at c.requires.0 in
     let before = rw (← c.self.view_is) at c.requires.1 in
@@ -110,7 +110,7 @@ returns-clause-book c =
     inside.tiers.items _ inside.first c.args.flows.now o book before c.if-self.false in
     let few : CanBeTaken inside.channel c.args.flows.now o.items inside.tiers.items inside.few.items =
     subst (λ b. CanBeTaken inside.channel c.args.flows.now o.items inside.tiers.items
-    (all_of b inside.few.items inside.many.items)) c.if-self.false can in
+    (all_of b inside.few.items inside.many)) c.if-self.false can in
     let is =
     (rw (c.deref-2.ensures.value, c.deref-3.ensures.value) at c.take_over-2.ensures) inside.channel o.items few o.shows in
     rw (← c.self.view_is) (is.book, is.shows ∙ o.shows)
@@ -118,7 +118,7 @@ returns-clause-book c =
 pub returns-clause-order : goal.returns-clause-order
 returns-clause-order c =
     let inside = c.self.inside in
-    let whole = all_of inside.is_long inside.few.items inside.many.items in
+    let whole = all_of inside.is_long inside.few.items inside.many in
     let o = c.self.invariant.overlay in
     let book = rw (← c.self.view_is) at c.requires.0 in
     let before = rw (← c.self.view_is) at c.requires.1 in
@@ -127,12 +127,12 @@ returns-clause-order c =
     inside.tiers.items _ inside.first c.args.flows.now o book before c.if-self.false in
     let few : CanBeTaken inside.channel c.args.flows.now o.items inside.tiers.items inside.few.items =
     subst (λ b. CanBeTaken inside.channel c.args.flows.now o.items inside.tiers.items
-    (all_of b inside.few.items inside.many.items)) c.if-self.false can in
+    (all_of b inside.few.items inside.many)) c.if-self.false can in
     let is =
     (rw (c.deref-2.ensures.value, c.deref-3.ensures.value) at c.take_over-2.ensures) inside.channel o.items few o.shows in
     let order = rw c.if-self.false at o.order in
     let kept : c.retain.new.self.items ≡ filter still_waits inside.few.items =
     filter_same _ still_waits _ (λ x b f' k. search rules) _ _ c.retain.ensures.filtered in
-    subst (IsQueue c.take_over-2.new.flows) (sym (c.from_vec.ensures.items ∙ kept))
+    subst (IsQueue c.take_over-2.new.flows) (sym (c.of.ensures ∙ kept))
     (same-queue inside.channel c.take_over-2.new.flows o.items (filter still_waits inside.few.items) is.book o.book
     is.shows order.0.waiting)

@@ -21,7 +21,7 @@ serve_first-requires-clause-started c =
     let o = c.self.invariant.overlay in
     let has =
     started-queue c.self.inside.channel c.self.inside.before.items c.self.inside.flows.items c.self.inside.is_long
-    (all_of c.self.inside.is_long c.self.inside.few.items c.self.inside.many.items) c.self.inside.served.items c.self.inside.tiers.items _ c.self.inside.first c.args.start o
+    (all_of c.self.inside.is_long c.self.inside.few.items c.self.inside.many) c.self.inside.served.items c.self.inside.tiers.items _ c.self.inside.first c.args.start o
     (rw (← c.self.view_is) at c.requires.started) in
     (o.items, o.order, rw (c.deref_mut.ensures.value, c.config-config.ensures) has)
 
@@ -31,7 +31,7 @@ returns-in_err-served-clause-next c =
     let config = c.self.inside.channel in
     let has =
     started-queue config c.self.inside.before.items c.self.inside.flows.items c.self.inside.is_long
-    (all_of c.self.inside.is_long c.self.inside.few.items c.self.inside.many.items) c.self.inside.served.items c.self.inside.tiers.items _ c.self.inside.first c.args.start o
+    (all_of c.self.inside.is_long c.self.inside.few.items c.self.inside.many) c.self.inside.served.items c.self.inside.tiers.items _ c.self.inside.first c.args.start o
     (rw (← c.self.view_is) at c.requires.started) in
     let none = (rw (c.deref_mut.ensures.value, c.config-config.ensures) at c.in_err-served.ensures.next) o.items o.order has in
     rw (← c.self.view_is, c.from_residual.ensures)
@@ -39,15 +39,15 @@ returns-in_err-served-clause-next c =
 
 -- all its grants have started
 has-started : (c : goal.After-forget_shown) → HasStartedIn c.self.inside.channel c.self.invariant.overlay.items
-    c.self.inside.tiers.items (all_of c.self.inside.is_long c.self.inside.few.items c.self.inside.many.items) c.self.inside.served.items c.args.start
+    c.self.inside.tiers.items (all_of c.self.inside.is_long c.self.inside.few.items c.self.inside.many) c.self.inside.served.items c.args.start
 has-started c =
     started-queue c.self.inside.channel c.self.inside.before.items c.self.inside.flows.items c.self.inside.is_long
-    (all_of c.self.inside.is_long c.self.inside.few.items c.self.inside.many.items) c.self.inside.served.items c.self.inside.tiers.items _ c.self.inside.first c.args.start c.self.invariant.overlay
+    (all_of c.self.inside.is_long c.self.inside.few.items c.self.inside.many) c.self.inside.served.items c.self.inside.tiers.items _ c.self.inside.first c.args.start c.self.invariant.overlay
     (rw (← c.self.view_is) at c.requires.started)
 
 -- the first is served
 first : (c : goal.After-forget_shown) → IsServedFirst c.self.inside.channel c.self.inside.is_long c.self.invariant.overlay.items
-    c.self.inside.tiers.items c.serve_first.new.tiers (all_of c.self.inside.is_long c.self.inside.few.items c.self.inside.many.items) c.self.inside.served.items (all_of c.self.inside.is_long c.serve_first.new.few.items c.serve_first.new.many.items) c.serve_first.new.served.items
+    c.self.inside.tiers.items c.serve_first.new.tiers (all_of c.self.inside.is_long c.self.inside.few.items c.self.inside.many) c.self.inside.served.items (all_of c.self.inside.is_long c.serve_first.new.few.items c.serve_first.new.many) c.serve_first.new.served.items
     c.args.start c.args.room c.most_in-bytes.result c.in_ok-served.served.sid c.in_ok-served.served.bytes
 first c =
     (rw (c.deref_mut.ensures.value, c.config-config.ensures) at c.in_ok-served.ensures.next) c.self.invariant.overlay.items c.self.invariant.overlay.order
@@ -55,12 +55,12 @@ first c =
 
 -- the flow is served
 served : (c : goal.After-forget_shown) → IsServed c.self.inside.channel c.self.invariant.overlay.items c.self.inside.is_long
-    c.serve_first.new.tiers (all_of c.self.inside.is_long c.self.inside.few.items c.self.inside.many.items) c.self.inside.served.items (all_of c.self.inside.is_long c.serve_first.new.few.items c.serve_first.new.many.items) c.serve_first.new.served.items
+    c.serve_first.new.tiers (all_of c.self.inside.is_long c.self.inside.few.items c.self.inside.many) c.self.inside.served.items (all_of c.self.inside.is_long c.serve_first.new.few.items c.serve_first.new.many) c.serve_first.new.served.items
     c.args.start c.args.room c.in_ok-served.served.bytes (first c).waiting (first c).new
 served c =
     let f = first c in
     is-served c.self.inside.channel c.self.invariant.overlay.items c.self.inside.tiers.items c.serve_first.new.tiers
-    (all_of c.self.inside.is_long c.self.inside.few.items c.self.inside.many.items) c.self.inside.served.items (all_of c.self.inside.is_long c.serve_first.new.few.items c.serve_first.new.many.items) c.serve_first.new.served.items
+    (all_of c.self.inside.is_long c.self.inside.few.items c.self.inside.many) c.self.inside.served.items (all_of c.self.inside.is_long c.serve_first.new.few.items c.serve_first.new.many) c.serve_first.new.served.items
     c.args.start c.args.room c.in_ok-served.served.sid c.in_ok-served.served.bytes c.most_in-bytes.result f.at f.waiting
     f.new (rw c.config-config.ensures at c.in_ok-served.ensures.lawful) (has-started c) f.here f.next
     (rw c.config-config.ensures at c.most_in-bytes.ensures) f.granted c.self.inside.is_long
@@ -85,8 +85,8 @@ invariant_of-self-2 c =
     let config = c.self.inside.channel in
     let before = c.self.inside.before.items in
     let is_long = c.self.inside.is_long in
-    let old = served_of is_long (all_of c.self.inside.is_long c.self.inside.few.items c.self.inside.many.items) c.self.inside.served.items in
-    let queue = (all_of c.self.inside.is_long c.serve_first.new.few.items c.serve_first.new.many.items) in
+    let old = served_of is_long (all_of c.self.inside.is_long c.self.inside.few.items c.self.inside.many) c.self.inside.served.items in
+    let queue = (all_of c.self.inside.is_long c.serve_first.new.few.items c.serve_first.new.many) in
     let after = c.serve_first.new.served.items in
     let ones = served_of is_long queue after in
     let shows : map live is.grown ≡ changed is.flow.sid (with_grant config grant) c.self.inside.flows.items =

@@ -9,10 +9,10 @@ use Rattle.flow_book.proofs.overlay.Overlay.show.Goals as goal
 pub show-shown-requires-clause-queue : goal.show-shown-requires-clause-queue
 show-shown-requires-clause-queue c =
     let is = c.self.invariant.overlay in
-    let whole = rw (c.deref.ensures.value, c.make_contiguous.ensures.value) at c.all_of-queue.ensures in
+    let whole = rw (c.deref.ensures.value, c.all.ensures) at c.all_of-queue.ensures in
     let of =
     shown-of c.self.inside.channel c.requires.book.0 c.self.inside.before.items c.self.inside.flows.items
-    c.self.inside.is_long (all_of c.self.inside.is_long c.self.inside.few.items c.self.inside.many.items) c.self.inside.served.items c.self.inside.tiers.items _
+    c.self.inside.is_long (all_of c.self.inside.is_long c.self.inside.few.items c.self.inside.many) c.self.inside.served.items c.self.inside.tiers.items _
     c.self.inside.first c.args.flows.now c.all_of-queue.result.now c.deref-3.result.now c.changed_of-changed.result.now
     c.forget_shown.new.line c.self.invariant.overlay c.requires.book.1 (rw (← c.self.view_is) at c.requires.flows)
     whole c.deref-3.ensures.value (rw (whole, c.deref-2.ensures.value) at c.changed_of-changed.ensures)
@@ -20,12 +20,12 @@ show-shown-requires-clause-queue c =
     (c.self.inside.channel, is.items, is.book, of.order, of.same, of.changes, of.lined)
 
 -- what is shown
-of : (c : goal.After-self-2-1) → IsShownOf c.self.inside.channel c.args.flows.now c.self.invariant.overlay.items
+of : (c : goal.After-self-1) → IsShownOf c.self.inside.channel c.args.flows.now c.self.invariant.overlay.items
     c.all_of-queue.result.now c.deref-3.result.now c.changed_of-changed.result.now c.forget_shown.new.line
 of c =
-    let whole = rw (c.deref.ensures.value, c.make_contiguous.ensures.value) at c.all_of-queue.ensures in
+    let whole = rw (c.deref.ensures.value, c.all.ensures) at c.all_of-queue.ensures in
     shown-of c.self.inside.channel c.requires.book.0 c.self.inside.before.items c.self.inside.flows.items
-    c.self.inside.is_long (all_of c.self.inside.is_long c.self.inside.few.items c.self.inside.many.items) c.self.inside.served.items c.self.inside.tiers.items _
+    c.self.inside.is_long (all_of c.self.inside.is_long c.self.inside.few.items c.self.inside.many) c.self.inside.served.items c.self.inside.tiers.items _
     c.self.inside.first c.args.flows.now c.all_of-queue.result.now c.deref-3.result.now c.changed_of-changed.result.now
     c.forget_shown.new.line c.self.invariant.overlay c.requires.book.1 (rw (← c.self.view_is) at c.requires.flows)
     whole c.deref-3.ensures.value (rw (whole, c.deref-2.ensures.value) at c.changed_of-changed.ensures)
@@ -35,11 +35,8 @@ pub invariant_of-self : goal.invariant_of-self
 invariant_of-self c =
     let is = c.self.invariant.overlay in
     let shown = of c in
-    let back =
-    c.make_contiguous.ensures.writes_back c.make_contiguous.result.now c.make_contiguous.ensures.len
-    ∙ c.make_contiguous.ensures.value in
     record {
-      overlay = rw back is;
+      overlay = is;
       lined = subst (λ fs. IsLineOf fs c.show-shown.new.line) is.shows
           (c.show-shown.ensures.line c.self.inside.channel is.items shown.order shown.changes shown.lined);
     }
