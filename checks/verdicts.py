@@ -4,7 +4,8 @@ A wrong body is refused at its own function, over the contracts of what that cal
 body itself; the bodies that it changes, or all of the crate where it was refused alone, at whichever function; all else
 of the crate's sources, its signatures, contracts, types, constants and models, and its specs/; the same of the crates
 below, of which no body is seen and no function that only they can name; the toolchain. It does not rest on comments,
-blank space, other bodies and proofs: a proof shows that a right body meets its contract, and makes no other right."""
+blank space, hints on inlining, other bodies and proofs: a proof shows that a right body meets its contract, and makes
+no other right."""
 
 import contextlib
 import datetime
@@ -31,9 +32,11 @@ GAP = re.compile(
 )
 # Of specs/ a text, or a comment, which begins where a name could.
 COMMENT = re.compile(r'"(?:\\.|[^"\\])*"|(?P<comment>(?<!\S)--.*)')
-# The attributes and comments right above a function, and those of its attributes that only help its proof.
+# The attributes and comments right above a function, those of its attributes that only help its proof, and those that
+# only help its speed.
 ABOVE = re.compile(r"(?:^[ \t]*(?://[^\n]*|#\[(?:[^][]|\[[^][]*\])*\])\n)*\Z", re.M)
 HELP = re.compile(r"#\[tactic\((?:[^][]|\[[^][]*\])*\)\]")
+HINT = re.compile(r"#\[(?:inline(?:\(\w+\))?|cold)\]")
 
 
 def commit():
@@ -75,8 +78,10 @@ class Part:
         body, end = functions.body_of(text, function)
         self.end = end + len(function[1]) + 1
         above = ABOVE.search(text[start : function.start()].rpartition("\n\n")[2])[0]
-        self.between, self.above = plain(text[start : function.start() - len(above)]), plain(above)
-        self.head, self.body = plain(HELP.sub("", above) + text[function.start() : body]), plain(text[body : self.end])
+        self.between = plain(text[start : function.start() - len(above)])
+        above = HINT.sub("", above)
+        self.above, self.body = plain(above), plain(text[body : self.end])
+        self.head = plain(HELP.sub("", above) + text[function.start() : body])
 
 
 class Sources:

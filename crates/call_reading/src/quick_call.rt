@@ -263,6 +263,7 @@ fn read_any_call(alloc: Global, reader: &mut Quick<'_>, depth: usize) -> Result<
 
 /// The call in its usual spelling that comes next, nested no deeper than this. It has no member that no call has, so
 /// none is a configuration.
+#[inline(always)]
 pub fn read_quick_call(alloc: Global, reader: &mut Quick<'_>, depth: usize) -> Result<Call, Stop>
     ensures is { IfOk result (λ call. (d : Data)
         × (converted of_json (value depth reader.old) ≡ Some (d, reader.new))

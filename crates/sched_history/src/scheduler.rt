@@ -140,8 +140,8 @@ impl Scheduler {
     }
 
     // Answers a call and records it, and gives the answer once more where it is asked for. A call that is not recorded
-    // changes nothing.
-    #[inline(always)]
+    // changes nothing. Compiled once, with all that it calls in it.
+    #[inline(never)]
     fn make(&mut self, stamp: Stamp, call: Call, twice: bool) -> Result<Option<Reply>, Unrecorded>
         ensures recorded { IfOk result (RecordsWithCopy self.old self.new stamp call twice) }
         ensures room { OnOk result (is_full self.old ≡ false) }

@@ -88,6 +88,7 @@ impl State {
     }
 
     // Makes such a call, and gives its one answer.
+    #[inline(always)]
     pub(super) fn make_told(&mut self, call: Call) -> Result<Reply, AllocError>
         requires open { IsOpen self.old call }
         requires told { is_told call ≡ true }
@@ -249,6 +250,7 @@ impl State {
     }
 
     // Describes the next frame by the MAP that is planned.
+    #[inline(always)]
     pub(super) fn commit(&mut self, frame: PlannedFrame) -> Reply
         requires { (now : ℕ) × (h : List Entry) × IsOpenTo self.old (Call.Build now) h
             × IsBuildAfter self.old.config h (build_of now frame) }

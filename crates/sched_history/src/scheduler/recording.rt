@@ -57,6 +57,7 @@ impl Scheduler {
     }
 
     // Answers a call that no test refuses, and gives the answer once more where it is asked for.
+    #[inline(always)]
     pub(super) fn accept(
         &mut self,
         stamp: Stamp,

@@ -126,6 +126,7 @@ fn refuse_backoff(header: Header) -> Option<Refusal>
 
 impl<'a> Present<'a> {
     // The first refusal of a call.
+    #[inline(always)]
     pub(crate) fn refusal_of(&self, call: Call) -> Option<Refusal>
         ensures { result ≡ refusal_of self.now.config self.now.history call }
     {
