@@ -165,7 +165,7 @@ def rank_of(config, rank, axis):
 def shown(history):
     """What the picture of the report on a history has to show."""
     config, told = history["config"], report(history)
-    frames = list(uses_of_frames(config, history["entries"]))
+    frames = list(uses_of_frames(history))
     steps, whole = steps_of(config, frames), (told["to"] or 0) - (told["from"] or 0)
     all_slots = max(sum(told["use"].values()), 1)
     axis = DelayAxis(config, [rank["delay"][kind] for rank in told["priorities"] if rank["delay"] for kind in SHOWN])

@@ -1,6 +1,6 @@
 """A plain reading of a history: how its channel did. It goes through the whole list again for each number, keeps every
 request and every grant of a flow, and looks each delay up among them. It is slow, and says what the report has to
-say."""
+say. A history may say of how many entries at its front nothing is told: `passed`."""
 
 from itertools import accumulate
 
@@ -119,25 +119,52 @@ def next_after(config, entries):
     return start
 
 
-def uses_of_frames(config, entries):
-    """For each frame the minislots of each of its allocations, by what it is for."""
-    kinds = {}
-    for entry, met in zip(entries, met_in(config, entries)):
+def entries_before(history, milliseconds):
+    """How many entries come before the first at whose time the next frame starts so many milliseconds after the start,
+    or later."""
+    config, entries = history["config"], history["entries"]
+    return next((at for at in range(len(entries)) if
+                 (next_after(config, entries[:at]) - config["start"]) * config["ticks"] >= 160 * milliseconds),
+                len(entries))
+
+
+def windowed(history, first, last):
+    """What is told of a history from so many milliseconds on, and before so many where they are given, with the words
+    that ask for it."""
+    until = len(history["entries"]) if last is None else entries_before(history, last)
+    return {"config": history["config"], "entries": history["entries"][:until], "whole": history,
+            "passed": min(entries_before(history, first), until),
+            "words": ["--from", str(first), *([] if last is None else ["--to", str(last)])]}
+
+
+def passed_in(history):
+    return history.get("passed", 0)
+
+
+def told_of(history):
+    """The entries of which something is told."""
+    return history["entries"][passed_in(history):]
+
+
+def uses_of_frames(history):
+    """For each frame that is told of the minislots of each of its allocations, by what it is for."""
+    config, entries, kinds = history["config"], history["entries"], {}
+    for at, (entry, met) in enumerate(zip(entries, met_in(config, entries))):
         if accepted(entry, "admit", "admitted"):
             kinds[entry["call"]["sid"]] = entry["call"]["flow"]["kind"]
         elif accepted(entry, "remove", "removed"):
             del kinds[entry["call"]["sid"]]
-        elif entry["reply"]["kind"] == "map":
+        elif entry["reply"]["kind"] == "map" and at >= passed_in(history):
             count = dict.fromkeys(uses_told(config), 0)
             for sid, iuc, offset, length, _ in allocations_of(entry["reply"]):
                 count[use_of(kinds, met, sid, iuc, offset)] += length
             yield entry["reply"]["start"], count
 
 
-def uses(config, entries):
-    """The minislots of all frames together, by what they are for."""
-    frames = [count for _, count in uses_of_frames(config, entries)]
-    return {name: sum(count[name] for count in frames) for name in uses_told(config)}
+def uses(history):
+    """The minislots of all these frames together, by what they are for."""
+    frames = [count for _, count in uses_of_frames(history)]
+    return {name: sum(count[name] for count in frames) for name in uses_told(history["config"])}
 
 
 def reservation_of(flow):
@@ -158,7 +185,8 @@ class Request:
 
 class Reservation:
     """The minimum reserved rate of a flow through its life: the bytes that the flow waits for, the data grants under it
-    since it has its numbers, as (start, bytes), and at how many starts of MAPs the flow waited under it."""
+    since it has its numbers, as (start, bytes), and at how many starts of MAPs that are told of the flow waited under
+    it."""
 
     def __init__(self, life):
         self.config, self.flow, self.waits, self.grants, self.under = life.config, life.first, 0, [], 0
@@ -167,7 +195,7 @@ class Reservation:
             if place in life.changes:
                 self.change(entry["call"]["flow"])
             if entry["reply"]["kind"] == "map":
-                self.map(entry["reply"], life.data_in(place))
+                self.map(entry["reply"], life.data_in(place), place >= life.passed)
 
     def change(self, flow):
         before, self.flow = reservation_of(self.flow), flow
@@ -180,8 +208,8 @@ class Reservation:
         wanted = min(self.waits, self.config["quantum"])
         return rate > 0 and keeps(self.config["ticks"], rate, burst, [*self.grants, (start, wanted)])
 
-    def map(self, reply, grants):
-        if self.waits > 0 and not settles(reply) and self.is_under(reply["start"]):
+    def map(self, reply, grants, is_told):
+        if is_told and self.waits > 0 and not settles(reply) and self.is_under(reply["start"]):
             self.under += 1
         for start, count in grants:
             if self.is_under(start):
@@ -191,9 +219,11 @@ class Reservation:
 
 class Life:
     """A life of a flow: the admission at this place, and the entries up to its end, of which each meets opportunities
-    at these offsets."""
+    at these offsets. Of so many of these entries nothing is told."""
 
-    def __init__(self, config, entries, met, at):
+    def __init__(self, history, met, at):
+        config, entries = history["config"], history["entries"]
+        self.passed = max(passed_in(history) - at - 1, 0)
         self.config, self.sid, self.first = config, entries[at]["call"]["sid"], entries[at]["call"]["flow"]
         self.ended = False
         self.since = []
@@ -202,7 +232,8 @@ class Life:
                 self.ended = True
                 break
             self.since.append(entry)
-        self.from_slot = next_after(config, entries[:at])
+        self.is_told = len(self.since) >= self.passed
+        self.from_slot = next_after(config, entries[:at + 1 + self.passed])
         self.to_slot = next_after(config, entries[:at + 1 + len(self.since)])
         # What its MAPs have of it, but for opportunities: the place of the entry, start, end, bytes and IUC.
         self.allocations = [(place, start, start + length, count, iuc)
@@ -221,7 +252,8 @@ class Life:
                      for place, entry in enumerate(self.since)]
         self.changes = self.places("change", "changed")
         self.flow = self.flow_before(len(self.since))
-        self.requests = [Request(self, place) for place, count in enumerate(self.asks) if count > 0]
+        self.requests = [Request(self, place) for place, count in enumerate(self.asks)
+                         if count > 0 and place >= self.passed]
 
     def places(self, call, kind):
         return [place for place, entry in enumerate(self.since)
@@ -247,13 +279,18 @@ class Life:
         return asked + (0 if last is None else self.granted_before(last))
 
     def asked(self):
-        return self.asked_with(len(self.since) - 1)
+        """The bytes outstanding where what is told begins, and those asked since."""
+        return self.asked_with(len(self.since) - 1) - self.granted_before(self.passed)
+
+    def carried(self):
+        return self.asked_with(self.passed - 1) - self.granted_before(self.passed)
 
     def granted(self):
         """The bytes granted: of an unsolicited flow as many for each grant as its parameters said then."""
         if self.flow["kind"] != "unsolicited":
-            return self.granted_before(len(self.since))
-        return sum(self.flow_before(place)["size"] for place, *_, iuc in self.allocations if iuc != REQUEST)
+            return self.granted_before(len(self.since)) - self.granted_before(self.passed)
+        return sum(self.flow_before(place)["size"] for place, *_, iuc in self.allocations
+                   if iuc != REQUEST and place >= self.passed)
 
     def delays(self):
         return [request.delay for request in self.requests if request.delay is not None]
@@ -263,11 +300,14 @@ class Life:
         left = len(self.requests) - len(delays) - replaced
         told = {"asked": self.asked(), "asks": len(self.requests), "delay": summary(delays),
                 "dropped": left if self.ended else 0, "from": self.from_slot, "granted": self.granted(),
-                "kind": self.flow["kind"], "outstanding": self.asked() - self.granted_before(len(self.since)),
+                "kind": self.flow["kind"],
+                "outstanding": self.asked_with(len(self.since) - 1) - self.granted_before(len(self.since)),
                 "replaced": replaced, "served": len(delays), "sid": self.sid, "to": self.to_slot,
                 "waiting": 0 if self.ended else left}
         if self.flow["kind"] == "best_effort":
             told["priority"] = self.flow["priority"]
+        if self.carried() > 0:
+            told["carried"] = self.carried()
         if reservation_of(self.flow)[0] > 0:
             told["under"] = Reservation(self).under
         return told
@@ -288,9 +328,12 @@ def summary(delays):
             "p99": percentile(delays, 99)}
 
 
-def lives_of(config, entries):
-    met = met_in(config, entries)
-    return [Life(config, entries, met, at) for at, entry in enumerate(entries) if accepted(entry, "admit", "admitted")]
+def lives_of(history):
+    """The lives that did not end before what is told."""
+    met = met_in(history["config"], history["entries"])
+    lives = [Life(history, met, at) for at, entry in enumerate(history["entries"])
+             if accepted(entry, "admit", "admitted")]
+    return [life for life in lives if life.is_told]
 
 
 def rank_of(life):
@@ -319,17 +362,17 @@ def calls_of(entries):
 
 def report(history):
     """The numbers of a history's document."""
-    config, entries = history["config"], history["entries"]
+    config, entries = history["config"], told_of(history)
     maps = [entry["reply"] for entry in entries if entry["reply"]["kind"] == "map"]
     numbers = [entry["reply"]["number"] for entry in entries if entry["reply"]["kind"] == "refused"]
-    lives = lives_of(config, entries)
+    lives = lives_of(history)
     ranks = [rank for rank in range(8, -1, -1) if any(rank_of(life) == rank and life.requests for life in lives)]
     told = {"calls": calls_of(entries), "frames": len(maps), "from": maps[0]["start"] if maps else None,
             "lives": [life.told() for life in lives],
             "priorities": [rank_told(rank, lives) for rank in ranks],
             "refused": {str(number): numbers.count(number) for number in set(numbers)},
             "skips": sum(1 for entry in entries if entry["reply"]["kind"] == "skipped"),
-            "to": maps[-1]["start"] + config["frame"] if maps else None, "use": uses(config, entries)}
+            "to": maps[-1]["start"] + config["frame"] if maps else None, "use": uses(history)}
     if not any(map(is_replacement, entries)):
         for one in [*told["lives"], *told["priorities"]]:
             del one["replaced"]

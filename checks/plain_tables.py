@@ -4,7 +4,7 @@ fractions, and a number without room is tried in each unit."""
 from fractions import Fraction
 from math import floor
 
-from plain_report import is_replacement, lives_of
+from plain_report import is_replacement, lives_of, told_of
 
 UNITS = ("", "k", "M", "G", "T", "P", "E", "Z", "Y", "R", "Q")
 BESIDE = (("request", "admit"), ("poll", "remove"), ("unsolicited", "ask"), ("opportunity", "heard"), ("data", "build"),
@@ -58,8 +58,8 @@ class Tables:
 
     def __init__(self, history, told):
         self.ticks, self.frame, self.told = history["config"]["ticks"], history["config"]["frame"], told
-        self.lives = list(zip(lives_of(history["config"], history["entries"]), told["lives"]))
-        self.replaced = any(map(is_replacement, history["entries"]))
+        self.lives = list(zip(lives_of(history), told["lives"]))
+        self.replaced = any(map(is_replacement, told_of(history)))
 
     def milliseconds(self, minislots, width):
         micros = nearest(Fraction(25 * self.ticks * minislots, 4))

@@ -176,6 +176,12 @@ format, with times in seconds; with --svg a picture of them, the use of minislot
 time and the delays by rank.
 docs/REPORT.md has each number in a line.
 
+With --from and --to it tells of a part of the history alone: of the entries at whose
+time the next frame started so many milliseconds after the configuration's start, or
+later, and earlier than the end. The flows that live then keep the bytes that are
+outstanding; their requests of before are not told of. Entries from the end on are not
+judged.
+
 With --journal it reads a journal as `run --journal` prints it, of any length, line
 by line, and reports on it as on that history: standard error names bytes after
 the last newline, which are ignored (`torn` and how many), and a line that

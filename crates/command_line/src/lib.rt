@@ -19,6 +19,9 @@ pub use input::{CommandInput, KEPT_DOCUMENT, KEPT_LINES, Opened, input_of};
 use std::alloc::{AllocError, Global};
 pub use terminals::{Terminals, refuse_terminal, tell_waiting, terminals_of};
 
+// The most milliseconds that an option takes: more than a channel's clock may count.
+const MOST_MILLISECONDS: u64 = 1_000_000_000_000_000_000;
+
 // A command, and what its help says before and behind its words.
 fn command<'a>(alloc: Global, name: &'a str, about: &'a str, after: &'a str) -> Command<'a>
     ensures { IsCommand result name.entry.now [] [] }
@@ -245,7 +248,7 @@ fn report_picture_option<'a>(alloc: Global) -> Result<Arg<'a>, AllocError>
 // The command that tells how a channel did.
 fn report_command<'a>(alloc: Global) -> Result<Command<'a>, AllocError>
     ensures { IfOk result (λ r. IsCommand r (codes "report")
-        (codes "all" ∷ codes "json" ∷ codes "openmetrics" ∷ codes "svg" ∷ codes "journal"
+        (codes "all" ∷ codes "json" ∷ codes "openmetrics" ∷ codes "svg" ∷ codes "from" ∷ codes "to" ∷ codes "journal"
         ∷ codes "FILE" ∷ []) []) }
 {
     let about = "Reads a history from standard input and prints how its channel did";
@@ -254,12 +257,16 @@ fn report_command<'a>(alloc: Global) -> Result<Command<'a>, AllocError>
         "all",
         "Prints all flows, in place of the 30 that asked most",
     );
+    let from = "Tells of no entry before this time";
+    let to = "Tells of no entry from this time on";
     let lines = journal_option(alloc);
     command(alloc, "report", about, help::REPORT)
         .arg(all)?
         .arg(report_json_option(alloc)?)?
         .arg(report_metrics_option(alloc)?)?
         .arg(report_picture_option(alloc)?)?
+        .arg(time_option(alloc, "from", from)?)?
+        .arg(time_option(alloc, "to", to)?)?
         .arg(lines)?
         .arg(file_word(alloc))
 }
@@ -298,6 +305,18 @@ fn frames_option<'a>(
     Ok(
         frames
             .value_parser(ValueParser::unsigned(least, most))
+            .help(help),
+    )
+}
+
+// Where what a report tells begins, or ends.
+fn time_option<'a>(alloc: Global, name: &'a str, help: &'a str) -> Result<Arg<'a>, AllocError>
+    ensures named { IfOk result (λ r. r.id.now ≡ name.entry.now) }
+    ensures local { IfOk result (λ r. r.global ≡ false) }
+{
+    let time = Arg::new(alloc, name).long(name).value_name("MS");
+    Ok(
+        time.value_parser(ValueParser::unsigned(0, MOST_MILLISECONDS))
             .help(help),
     )
 }
@@ -404,7 +423,8 @@ pub fn commands<'a>(alloc: Global) -> Result<Command<'a>, AllocError>
         ∷ (codes "audit", codes "explain" ∷ codes "json" ∷ codes "journal" ∷ codes "FILE" ∷ [])
         ∷ (
           codes "report",
-          codes "all" ∷ codes "json" ∷ codes "openmetrics" ∷ codes "svg" ∷ codes "journal" ∷ codes "FILE" ∷ [],
+          codes "all" ∷ codes "json" ∷ codes "openmetrics" ∷ codes "svg" ∷ codes "from" ∷ codes "to" ∷ codes "journal"
+              ∷ codes "FILE" ∷ [],
         )
         ∷ (codes "storm", codes "FILE" ∷ []) ∷ (codes "check", codes "json" ∷ codes "FILE" ∷ [])
         ∷ (codes "pcap", codes "mac" ∷ codes "journal" ∷ codes "FILE" ∷ [])

@@ -7,7 +7,7 @@ use clap::ArgMatches;
 use decode_command::{Form as DecodeForm, JsonForm};
 use live_command::Wording;
 use pcap_command::ADDRESS;
-use report_command::Form;
+use report_command::{Form, Range};
 use run_command::{RunOutput, Words};
 use std::alloc::{AllocError, Global};
 
@@ -70,6 +70,14 @@ pub(crate) fn form_of(report: &ArgMatches) -> Form {
         return Form::All;
     }
     Form::Few
+}
+
+/// The part of a history that the command `report` is asked for.
+pub(crate) fn range_of(report: &ArgMatches) -> Range {
+    Range {
+        from: report.get_one("from").unwrap_or(0),
+        to: report.get_one("to"),
+    }
 }
 
 /// In what words the command `live` is asked to answer.

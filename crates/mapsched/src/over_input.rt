@@ -2,7 +2,7 @@
 //! nor the form for journals into that of its command: a frame on the stack has the room of all that is put into a
 //! function.
 
-use crate::asked::{audit_form_of, check_form_of, form_of, journal_form_of, output_of};
+use crate::asked::{audit_form_of, check_form_of, form_of, journal_form_of, output_of, range_of};
 use audit_command::{JournalEnd, audit_input, audit_journal_input};
 use check_lines::{Documents, Journals, Reads, check_any_input, tell_input};
 use clap::ArgMatches;
@@ -218,7 +218,12 @@ fn report_journal<R: Source>(
     rt: &(impl Print + Eprint + AllocGlobal),
     given: &mut Given<'_, '_, R>,
 ) -> ExitCode {
-    let outcome = report_journal_input(rt, &mut given.input, form_of(given.words));
+    let outcome = report_journal_input(
+        rt,
+        &mut given.input,
+        form_of(given.words),
+        range_of(given.words),
+    );
     ended_journal(rt, outcome, given)
 }
 
@@ -231,7 +236,12 @@ fn report<R: Source>(
     if given.words.get_flag("journal") {
         return report_journal(rt, given);
     }
-    let outcome = report_input(rt, &mut given.input, form_of(given.words));
+    let outcome = report_input(
+        rt,
+        &mut given.input,
+        form_of(given.words),
+        range_of(given.words),
+    );
     ended(rt, outcome, given)
 }
 

@@ -1,3 +1,4 @@
+pub mod Range
 pub mod Form
 pub mod Report
 pub mod Journal

@@ -35,7 +35,7 @@ fn text_of(
 ) -> Result<Option<Vec<u8>>, AllocError>
     requires { config.now ≡ reporter.now.config }
     ensures text { IfOk result (λ made. IfSome made
-        (λ text. Says form reporter.now.config reporter.now.history text.items)) }
+        (λ text. Says form reporter.now text.items)) }
     ensures picture { IfOk result (λ made. made ≡ None → form ≡ Form.Picture) }
 {
     match form {
@@ -56,7 +56,7 @@ pub(crate) fn put_report<W: Sink>(
     timed: &TimedReporter,
 ) -> Result<(), TextFault>
     requires { config.now ≡ timed.now.config }
-    ensures ok { OnOk result (IsSaid form timed.now.config timed.now.history
+    ensures ok { OnOk result (IsSaid form timed.now
         (W.contents writer.old) (W.contents writer.new)) }
     ensures err { IfErr result (λ e. (e ≡ TextFault.Memory) ⊎ (e ≡ TextFault.Output)) }
     ensures failed { FailsBy TextFault.Output result

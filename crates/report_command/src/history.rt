@@ -8,6 +8,7 @@ ghost use Rattle.report_command.specs.Report.{Reported, StopsReport};
 
 use crate::fed::{Fed, feed};
 use crate::form::{Form, put_report};
+use crate::range::Range;
 use history_reading::read_history;
 use sched_lines::put_named;
 use std::alloc::Global;
@@ -23,17 +24,19 @@ fn put_illegal<W: Sink>(writer: &mut W, place: usize) -> Result<bool, TextFault>
     Ok(false)
 }
 
-/// Reads a history, a configuration and entries in JSON, to the reader's end, and writes the report on it in this form;
-/// or where it is illegal `illegal` and the first entry, counted from 0, whose reply may not follow those before it.
-/// Answers whether it is legal. Nothing is written before another fault than one of output.
+/// Reads a history, a configuration and entries in JSON, to the reader's end, and writes the report on what is in this
+/// range of it in this form; entries behind that are not judged. Or where it is illegal `illegal` and the first entry,
+/// counted from 0, whose reply may not follow those before it. Answers whether it is legal. Nothing is written before
+/// another fault than one of output.
 pub fn run_report<R: Source, W: Sink>(
     alloc: Global,
     reader: &mut R,
     writer: &mut W,
     form: Form,
+    range: Range,
 ) -> Result<bool, RunFault>
     // What was written is the report on the history that was read, and nothing else.
-    ensures ok { IfOk result (Reported form (R.remaining reader.old) (R.remaining reader.new)
+    ensures ok { IfOk result (Reported form range (R.remaining reader.old) (R.remaining reader.new)
         (W.contents writer.old) (W.contents writer.new)) }
 
     // Each fault comes under its own condition, the first one in their order.
@@ -47,7 +50,7 @@ pub fn run_report<R: Source, W: Sink>(
         (W.has_failed writer.old) (W.has_failed writer.new) }
 {
     let (config, entries) = read_history(alloc, reader)?;
-    let reporter = match feed(alloc, &config, &entries)? {
+    let reporter = match feed(alloc, &config, &entries, range)? {
         Fed::Legal(reporter) => reporter,
         Fed::Illegal(place) => return Ok(put_illegal(writer, place)?),
     };

@@ -4,6 +4,7 @@
 use crate::form::Form;
 use crate::history::run_report;
 use crate::journal_report::run_journal_report;
+use crate::range::Range;
 use journal_entries::EntriesEnd;
 use std::io;
 use text_stream::{RunFault, Source, Watched};
@@ -13,9 +14,10 @@ pub fn report_input<R: Source>(
     rt: &(impl Print + AllocGlobal),
     reader: &mut R,
     form: Form,
+    range: Range,
 ) -> Result<bool, RunFault> {
     let mut writer = Watched::new(io::writer(rt));
-    run_report(rt.alloc(), reader, &mut writer, form)
+    run_report(rt.alloc(), reader, &mut writer, form, range)
 }
 
 /// The command `report` on a journal: how it ends. What is torn, and which line is bad, is told on standard error.
@@ -23,9 +25,10 @@ pub fn report_journal_input<R: Source>(
     rt: &(impl Print + Eprint + AllocGlobal),
     reader: &mut R,
     form: Form,
+    range: Range,
 ) -> Result<EntriesEnd, RunFault> {
     let mut writer = Watched::new(io::writer(rt));
-    let end = run_journal_report(rt.alloc(), reader, &mut writer, form)?;
+    let end = run_journal_report(rt.alloc(), reader, &mut writer, form, range)?;
     // What is illegal stands on standard output.
     if !matches!(end, EntriesEnd::Illegal(_)) {
         end.tell(rt);

@@ -9,6 +9,7 @@ ghost use Rattle.report_command.specs.Journal.{ReportedJournal};
 
 use crate::form::{Form, put_report};
 use crate::journal::{Shown, show_journal};
+use crate::range::Range;
 use journal_entries::EntriesEnd;
 use sched_lines::put_named;
 use std::alloc::Global;
@@ -24,7 +25,8 @@ fn put_illegal_entry<W: Sink>(writer: &mut W, place: u64) -> Result<EntriesEnd, 
     Ok(EntriesEnd::Illegal(place))
 }
 
-/// Reads a journal to its end, and writes the report on its entries in this form; or where they are no legal history
+/// Reads a journal to its end, or to that of this range, and writes the report on what is in the range of it in this form;
+/// entries behind that are not read. Or where they are no legal history
 /// `illegal` and the first entry, counted from 0, whose reply may not follow those before it. Nothing is written where
 /// a line is bad, nor before another fault than one of output. Its memory is that of the lives, of the requests that
 /// wait and of the kinds of delays, and not of the entries.
@@ -33,9 +35,10 @@ pub fn run_journal_report<R: Source, W: Sink>(
     reader: &mut R,
     writer: &mut W,
     form: Form,
+    range: Range,
 ) -> Result<EntriesEnd, RunFault>
     // What was written is the report on exactly the entries that the journal stands for, and nothing else.
-    ensures ok { IfOk result (ReportedJournal form (R.remaining reader.old) (R.remaining reader.new)
+    ensures ok { IfOk result (ReportedJournal form range (R.remaining reader.old) (R.remaining reader.new)
         (W.contents writer.old) (W.contents writer.new)) }
 
     // Each fault comes under its own condition.
@@ -48,7 +51,7 @@ pub fn run_journal_report<R: Source, W: Sink>(
     ensures failed_write { TellsFailedWrite result
         (W.has_failed writer.old) (W.has_failed writer.new) }
 {
-    let (config, reporter, torn) = match show_journal(alloc, reader)? {
+    let (config, reporter, torn) = match show_journal(alloc, reader, range)? {
         Shown::Legal(config, reporter, torn) => (config, reporter, torn),
         Shown::Illegal(place) => return Ok(put_illegal_entry(writer, place)?),
         Shown::Bad(line) => return Ok(EntriesEnd::Bad(line)),

@@ -7,8 +7,11 @@ mod history;
 mod input;
 mod journal;
 mod journal_report;
+mod range;
+mod ranged;
 
 pub use form::Form;
 pub use history::run_report;
 pub use input::{report_input, report_journal_input};
 pub use journal_report::run_journal_report;
+pub use range::Range;

@@ -1,34 +1,64 @@
 -- What is kept of the use of minislots over time, as steps get wider.
-use Rattle.std.proofs.Common.{◌≡◌, ℕ, ◌-◌, ◌*◌, ◌<◌, ◌≤◌, List, [], ◌∷◌, ◌++◌, length, take, suc}
-use Rattle.std.proofs.Common.{get_or, ap, sym, refl, ◌∙◌, None, arith}
+use Rattle.std.proofs.Common.{◌≡◌, ℕ, ◌-◌, ◌*◌, ◌<◌, ◌≤◌, List, [], ◌∷◌, ◌++◌, length, take, drop, suc}
+use Rattle.std.proofs.Common.{get_or, ap, sym, refl, ◌∙◌, Option, None, Some, length-append, arith}
 use Rattle.std.proofs.Math.Nat.{two-pow-succ}
-use Rattle.std.proofs.lemmas.List.{take_all, length_push}
+use Rattle.std.proofs.lemmas.List.{length-drop, take-append-le, drop-append-le}
 use Rattle.minislots.specs.declared.config.Config.{Config}
 use Rattle.sched_calls.specs.declared.frame_map.FrameMap.{FrameMap}
 use Rattle.sched_calls.specs.declared.reply.Entry.{Entry}
-use Rattle.sched_calls.specs.declared.reply.TheConstants.{MAX_WHOLE_HISTORY}
 use Rattle.sched_calls.specs.declared.reply.Reply.{Reply}
 use Rattle.sched_calls.specs.declared.reply.Reply.TheVariants as replies
 use Rattle.sched_history.specs.History.{map_by}
-use Rattle.frame_picture.specs.Frames.{Frame, frames_of}
-use Rattle.frame_picture.proofs.FrameLists.{frames_of-front-≤}
+use Rattle.frame_picture.specs.Frames.{Frame, frame_by, frames_after}
 use Rattle.sched_report.specs.declared.slots.Slots.{Slots}
+use Rattle.sched_report.specs.Window.{Window, entries_of, frames_told}
+use Rattle.sched_report.proofs.Pushed.{frames_after-built, frames_after-unbuilt}
 use Rattle.report_picture.specs.declared.over_time.UseOverTime.{UseOverTime}
 use Rattle.report_picture.specs.OverTime.{use_in, start_of}
 use Rattle.report_picture.specs.Kept.{IsOverTime, IsReadyFor}
 use Rattle.report_picture.proofs.Widths.{width-some}
 use Rattle.report_picture.proofs.Starts.{half-marks}
 
--- a history has no more frames than entries
-pub few_frames : (h : List Entry) → length (frames_of h) ≤ length h
-few_frames h =
-    let all : take (length h) h ≡ h = take_all (length h) h (omega arith) in
-    omega (arith, ap (λ (xs : List Entry). length (frames_of xs)) all, frames_of-front-≤ h (length h) (omega arith))
+one_frame : (before : List Entry) (o : Option FrameMap) → length (frame_by before o) ≤ 1
+one_frame before None = omega arith
+one_frame before (Some m) = omega arith
 
--- a history that is not full and one entry more
-pub one-more : (h : List Entry) (e : Entry) (new : List Entry) → new ≡ h ++ e ∷ [] → length h < MAX_WHOLE_HISTORY
-    → length new ≤ MAX_WHOLE_HISTORY
-one-more h e new is short = omega (arith, ap length is, length_push h e, short)
+few_after : (before es : List Entry) → length (frames_after before es) ≤ length es
+few_after before [] = omega arith
+few_after before (e ∷ es) =
+    omega (
+      arith,
+      length-append (frame_by before (map_by e.reply)) (frames_after (before ++ e ∷ []) es),
+      one_frame before (map_by e.reply),
+      few_after (before ++ e ∷ []) es,
+    )
+
+-- no more frames are told of than there are entries
+pub few_frames : (w : Window) → length (frames_told w) ≤ length w.history
+few_frames w =
+    omega (arith, few_after (take w.passed w.history) (drop w.passed w.history), length-drop w.passed w.history)
+
+module _ (w : Window) (e : Entry) where
+  -- what is told of with one entry more
+  abbrev more : Window
+  more = record w { history = w.history ++ e ∷ [] }
+
+  frames-more : w.passed ≤ length w.history
+      → frames_told more ≡ frames_after (take w.passed w.history) (entries_of w ++ e ∷ [])
+  frames-more passed =
+      ap (λ (es : List Entry). frames_after es (entries_of more)) (take-append-le w.passed w.history (e ∷ []) passed)
+      ∙ ap (frames_after (take w.passed w.history)) (drop-append-le w.passed w.history (e ∷ []) passed)
+
+  -- has a frame more where that has a MAP
+  pub frames-built : (m : FrameMap) → w.passed ≤ length w.history → e.reply ≡ replies.Built m
+      → frames_told more
+      ≡ frames_told w ++ record { before = take w.passed w.history ++ entries_of w; built = m } ∷ []
+  frames-built m passed is = frames-more passed ∙ frames_after-built (take w.passed w.history) (entries_of w) e m is
+
+  -- and else the same
+  pub frames-unbuilt : w.passed ≤ length w.history → map_by e.reply ≡ None → frames_told more ≡ frames_told w
+  frames-unbuilt passed none =
+      frames-more passed ∙ frames_after-unbuilt (take w.passed w.history) (entries_of w) e none
 
 -- a reply that built no MAP
 pub no_map : (reply : Reply) → ((m : FrameMap) → reply ≡ replies.Built m → ⊥) → map_by reply ≡ None

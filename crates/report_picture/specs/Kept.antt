@@ -1,11 +1,11 @@
 -- What is kept of the use of minislots over time.
 use Rattle.std.specs.Prelude.{◌≡◌, ℕ, ◌+◌, ◌-◌, ◌*◌, ◌<◌, ◌≤◌, List, take, length, slice_index_or}
 use Rattle.minislots.specs.declared.config.Config.{Config}
-use Rattle.sched_calls.specs.declared.reply.Entry.{Entry}
 use Rattle.sched_calls.specs.declared.reply.TheConstants.{MAX_WHOLE_HISTORY}
-use Rattle.frame_picture.specs.Frames.{Frame, frames_of}
+use Rattle.frame_picture.specs.Frames.{Frame}
 use Rattle.sched_report.specs.declared.slots.Slots.{Slots}
 use Rattle.report_picture.specs.declared.over_time.UseOverTime.{UseOverTime}
+use Rattle.sched_report.specs.Window.{Window, frames_told}
 use Rattle.report_picture.specs.OverTime.{use_in, start_of, IsWidth}
 
 -- The frames are counted, and each mark is the use of all of them before its step
@@ -31,10 +31,11 @@ pub record IsOverTime (c : Config) (u : UseOverTime) (fs : List Frame) : Type 0 
   pub starts : AreStarts u fs
   pub width : IsWidth (length fs) u.width
 
--- The use is that of the frames of a history, which is no longer than one may be
-pub record IsTimed (c : Config) (u : UseOverTime) (h : List Entry) : Type 0 where
-  pub over_time : IsOverTime c u (frames_of h)
-  pub short : length h ≤ MAX_WHOLE_HISTORY
+-- The use is that of the frames that are told of, in a history which is no longer than one may be
+pub record IsTimed (w : Window) (u : UseOverTime) : Type 0 where
+  pub over_time : IsOverTime w.config u (frames_told w)
+  pub short : length w.history ≤ MAX_WHOLE_HISTORY
+  pub passed : w.passed ≤ length w.history
 
 -- The steps have the width that one frame more has
 pub record IsReadyFor (c : Config) (u : UseOverTime) (fs : List Frame) : Type 0 where

@@ -1,10 +1,8 @@
 -- The picture of a report.
 use Rattle.std.specs.Prelude.{◌≡◌, ℕ, ◌-◌, ◌==◌, nat_lt, Bool, if◌then◌else◌, List, [], ◌++◌, length, codes}
 use Rattle.minislots.specs.declared.config.Config.{Config}
-use Rattle.sched_calls.specs.declared.reply.Entry.{Entry}
-use Rattle.frame_picture.specs.Frames.{frames_of}
 use Rattle.sched_report.specs.declared.totals.Totals.{Totals}
-use Rattle.sched_report.specs.Totals.{totals_of}
+use Rattle.sched_report.specs.Window.{Window, frames_told, totals_told}
 use Rattle.sched_report.specs.declared.ranks_told.RankTold.{RankTold}
 use Rattle.sched_report.specs.RanksTold.{AreRanksTold}
 use Rattle.report_picture.specs.declared.course.Course.{Course}
@@ -51,12 +49,12 @@ course_of c t frames width = record {
   opens = t.opens;
 }
 
--- The text is the picture of the report on a history
-pub record IsReportPicture (c : Config) (h : List Entry) (text : List ℕ) : Type 0 where
+-- The text is the picture of the report on what is told of a history
+pub record IsReportPicture (w : Window) (text : List ℕ) : Type 0 where
   pub width : ℕ
-  pub is_width : IsWidth (length (frames_of h)) width
+  pub is_width : IsWidth (length (frames_told w)) width
   pub ranks : List RankTold
-  pub are_ranks : AreRanksTold c h ranks
+  pub are_ranks : AreRanksTold w ranks
   pub text_is : text
-      ≡ report_text (course_of c (totals_of c h) (length (frames_of h)) width) (totals_of c h)
-      (all_steps c width (frames_of h)) ranks
+      ≡ report_text (course_of w.config (totals_told w) (length (frames_told w)) width) (totals_told w)
+      (all_steps w.config width (frames_told w)) ranks

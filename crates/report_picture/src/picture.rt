@@ -131,7 +131,7 @@ pub fn put_report_picture<W: Sink>(
     requires same { config.now ≡ timed.now.config }
 
     // What was written is the picture, and nothing else.
-    ensures { (text : List ℕ) × IsReportPicture timed.now.config timed.now.history text
+    ensures { (text : List ℕ) × IsReportPicture timed.now text
         × Writes W.contents W.has_failed writer.old writer.new text result }
 {
     let over_time = timed.over_time();

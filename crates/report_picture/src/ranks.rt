@@ -27,7 +27,7 @@ pub(crate) const NO_RANK: RankTold = RankTold {
 
 // The numbers of each rank that asked, from the one that is served first on.
 pub(crate) fn ranks_told(reporter: &Reporter) -> Few<RankTold, 9>
-    ensures told { AreRanksTold reporter.now.config reporter.now.history result }
+    ensures told { AreRanksTold reporter.now result }
     ensures most { length result ≤ 9 }
 {
     let mut ranks = Few::none(NO_RANK);

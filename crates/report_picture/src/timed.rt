@@ -4,7 +4,7 @@ ghost use Rattle.std.specs.Prelude.{◌≡◌, ◌^◌, ◌≤◌, ◌↔◌, �
 ghost use Rattle.std.specs.Prelude.{IfOk, OnOk, OnErr, IsErrOf};
 ghost use Rattle.sched_calls.specs.declared.reply.TheConstants.{MAX_WHOLE_HISTORY};
 ghost use Rattle.sched_history.specs.History.{IsStep, IsLegal};
-ghost use Rattle.frame_picture.specs.Frames.{frames_of};
+ghost use Rattle.sched_report.specs.Window.{whole, frames_told};
 ghost use Rattle.sched_report.specs.ToldLives.{MayLackReportMemory};
 ghost use Rattle.report_picture.specs.Kept.{IsOverTime};
 
@@ -24,22 +24,21 @@ pub struct TimedReporter {
 }
 
 impl Model for TimedReporter {
-    ghost use Rattle.sched_history.specs.Machine.{Past};
+    ghost use Rattle.sched_report.specs.Window.{Window};
     ghost use Rattle.report_picture.specs.Kept.{IsTimed};
 
-    ghost Value = { Past };
+    ghost Value = { Window };
 
     ghost view = { λ r. r.reporter };
 
-    ghost invariant = { λ r.
-        IsTimed r.reporter.config r.over_time.value r.reporter.history };
+    ghost invariant = { λ r. IsTimed r.reporter r.over_time.value };
 }
 
 impl TimedReporter {
     /// A reporter under this configuration, which has taken no entry.
     #[inline(never)]
     pub fn open(alloc: Global, config: Checked) -> Result<TimedReporter, AllocError>
-        ensures { IfOk result (λ r. r ≡ record { config = config; history = [] }) }
+        ensures { IfOk result (λ r. r ≡ whole config []) }
     {
         Ok(TimedReporter {
             reporter: Reporter::open(alloc, config)?,
@@ -73,6 +72,15 @@ impl TimedReporter {
         Ok(())
     }
 
+    /// Tells from here on of what follows alone, as [`Reporter::renew`] does.
+    #[inline(never)]
+    pub fn renew(&mut self)
+        ensures { self.new ≡ record self.old { passed = length self.old.history } }
+    {
+        self.reporter.renew();
+        *self.over_time = UseOverTime::none();
+    }
+
     /// The reporter, which tells the numbers.
     pub fn reporter(&self) -> &Reporter
         ensures { result.now ≡ self.now }
@@ -82,8 +90,8 @@ impl TimedReporter {
 
     // The use of minislots over time.
     pub(crate) fn over_time(&self) -> &UseOverTime
-        ensures told { IsOverTime self.now.config result.now (frames_of self.now.history) }
-        ensures short { length (frames_of self.now.history) ≤ 2 ^ 44 }
+        ensures told { IsOverTime self.now.config result.now (frames_told self.now) }
+        ensures short { length (frames_told self.now) ≤ 2 ^ 44 }
     {
         &self.over_time
     }

@@ -1,8 +1,6 @@
 -- The numbers of a report as OpenMetrics: those of the channel, and the whole text.
 use Rattle.std.specs.Prelude.{◌≡◌, ℕ, ◌+◌, Bool, if◌then◌else◌, List, [], ◌++◌, flat_map, length, codes, slice_index}
 use Rattle.std.specs.List.{range_with_len}
-use Rattle.minislots.specs.declared.config.Config.{Config}
-use Rattle.sched_calls.specs.declared.reply.Entry.{Entry}
 use Rattle.sched_report.specs.declared.calls.Calls.{Calls}
 use Rattle.sched_report.specs.declared.slots.Slots.{Slots}
 use Rattle.sched_report.specs.declared.totals.Totals.{Totals}
@@ -10,7 +8,7 @@ use Rattle.sched_report.specs.declared.life.LifeNumbers.{LifeNumbers}
 use Rattle.sched_report.specs.declared.ranks_told.RankTold.{RankTold}
 use Rattle.sched_report.specs.Counts.{CountsRefusals}
 use Rattle.sched_report.specs.RanksTold.{AreRanksTold}
-use Rattle.sched_report.specs.Totals.{totals_of}
+use Rattle.sched_report.specs.Window.{Window, entries_of, totals_told}
 use Rattle.report_writing.specs.declared.metrics.sample.Measure.TheVariants.{Seconds, Pieces}
 use Rattle.report_writing.specs.Gathered.{AreLivesTold}
 use Rattle.report_writing.specs.Samples.{heading, label, labels_of, count_sample, time_sample, count_line}
@@ -112,11 +110,11 @@ metrics_text ticks t refused ranks lives =
     channel_metrics ticks t refused ++ (ranks_metrics ticks ranks ++ (lives_metrics ticks lives ++ codes "# EOF\n"))
 
 -- The text is the metrics of the report on a history
-pub record IsReportMetrics (c : Config) (h : List Entry) (text : List ℕ) : Type 0 where
+pub record IsReportMetrics (w : Window) (text : List ℕ) : Type 0 where
   pub refused : List ℕ
-  pub counts : CountsRefusals refused h
+  pub counts : CountsRefusals refused (entries_of w)
   pub ranks : List RankTold
-  pub are_ranks : AreRanksTold c h ranks
+  pub are_ranks : AreRanksTold w ranks
   pub lives : List LifeNumbers
-  pub are_lives : AreLivesTold c h lives
-  pub text_is : text ≡ metrics_text c.ticks (totals_of c h) refused ranks lives
+  pub are_lives : AreLivesTold w lives
+  pub text_is : text ≡ metrics_text w.config.ticks (totals_told w) refused ranks lives

@@ -4,10 +4,8 @@ use Rattle.std.specs.Prelude.{codes, decimal, slice_index, Option, None, Some}
 use Rattle.serde_json.specs.Data.{Data, Members, string, array, object, no_members, member}
 use Rattle.serde_json.specs.View.{items_of}
 use Rattle.serde_json.specs.Written.{compact_text}
-use Rattle.minislots.specs.declared.config.Config.{Config}
 use Rattle.sched_calls.specs.declared.spec.FlowSpec.{FlowSpec}
 use Rattle.sched_calls.specs.declared.spec.FlowSpec.TheVariants.{Unsolicited, Polled, BestEffort}
-use Rattle.sched_calls.specs.declared.reply.Entry.{Entry}
 use Rattle.sched_report.specs.declared.calls.Calls.{Calls}
 use Rattle.sched_report.specs.declared.slots.Slots.{Slots}
 use Rattle.sched_report.specs.declared.totals.Totals.{Totals}
@@ -16,7 +14,7 @@ use Rattle.sched_report.specs.declared.life.TheConstants.{POLLED}
 use Rattle.sched_report.specs.declared.ranks_told.RankTold.{RankTold}
 use Rattle.sched_report.specs.Counts.{CountsRefusals}
 use Rattle.sched_report.specs.RanksTold.{AreRanksTold}
-use Rattle.sched_report.specs.Totals.{totals_of}
+use Rattle.sched_report.specs.Window.{Window, entries_of, totals_told}
 use Rattle.history_writing.specs.Json.{count}
 use Rattle.report_writing.specs.Cells.{delay_data, maybe_data, with_given}
 use Rattle.report_writing.specs.Gathered.{AreLivesTold}
@@ -46,11 +44,12 @@ told_above_0 n = told_if (nat_lt 0 n) n
 abbrev pub tells_replaced : Totals → Bool
 tells_replaced t = nat_lt 0 t.replaces
 
--- a life of a flow, with its replaced requests or without, and where it has a minimum reserved rate with how often it
--- waited under it
+-- a life of a flow, with its replaced requests or without, with what was outstanding where what is told began if there
+-- was something, and where it has a minimum reserved rate with how often it waited under it
 unfoldable pub life_data : Bool → LifeNumbers → Data
 life_data replaced n = object (
     member (codes "asked") (count n.sums.asked) (member (codes "asks") (count n.sums.asks) (
+    with_given (codes "carried") (told_above_0 n.carried) (
     member (codes "delay") (delay_data n.sums.delays.greatest n.sums.delays.least n.middle n.p99) (
     member (codes "dropped") (count n.dropped) (member (codes "from") (count n.from) (
     member (codes "granted") (count n.granted) (member (codes "kind") (string (kind_name n.spec)) (
@@ -58,7 +57,7 @@ life_data replaced n = object (
     with_given (codes "replaced") (told_if replaced n.sums.replaced) (
     member (codes "served") (count n.sums.delays.served) (member (codes "sid") (count n.sid) (
     member (codes "to") (count n.to) (with_given (codes "under") (under_of n) (
-    member (codes "waiting") (count n.waiting) no_members)))))))))))))))
+    member (codes "waiting") (count n.waiting) no_members))))))))))))))))
 
 -- the name of polled flows' rank, or else a priority
 abbrev pub rank_name : ℕ → Data
@@ -138,11 +137,11 @@ unfoldable pub report_text : Totals → List ℕ → List LifeNumbers → List R
 report_text t refused lives ranks = compact_text (report_data t refused lives ranks) ++ 10 ∷ []
 
 -- The text is that of the report on a history
-pub record IsReportText (c : Config) (h : List Entry) (text : List ℕ) : Type 0 where
+pub record IsReportText (w : Window) (text : List ℕ) : Type 0 where
   pub refused : List ℕ
-  pub counts : CountsRefusals refused h
+  pub counts : CountsRefusals refused (entries_of w)
   pub lives : List LifeNumbers
-  pub are_lives : AreLivesTold c h lives
+  pub are_lives : AreLivesTold w lives
   pub ranks : List RankTold
-  pub are_ranks : AreRanksTold c h ranks
-  pub text_is : text ≡ report_text (totals_of c h) refused lives ranks
+  pub are_ranks : AreRanksTold w ranks
+  pub text_is : text ≡ report_text (totals_told w) refused lives ranks

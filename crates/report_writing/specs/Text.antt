@@ -1,13 +1,11 @@
 -- The text of a report: its tables.
 use Rattle.std.specs.Prelude.{◌≡◌, ℕ, Bool, List, ◌++◌}
-use Rattle.minislots.specs.declared.config.Config.{Config}
-use Rattle.sched_calls.specs.declared.reply.Entry.{Entry}
 use Rattle.sched_report.specs.declared.totals.Totals.{Totals}
 use Rattle.sched_report.specs.declared.life.LifeNumbers.{LifeNumbers}
 use Rattle.sched_report.specs.declared.ranks_told.RankTold.{RankTold}
 use Rattle.sched_report.specs.Counts.{CountsRefusals}
 use Rattle.sched_report.specs.RanksTold.{AreRanksTold}
-use Rattle.sched_report.specs.Totals.{totals_of}
+use Rattle.sched_report.specs.Window.{Window, entries_of, totals_told}
 use Rattle.report_writing.specs.Gathered.{AreLivesTold}
 use Rattle.report_writing.specs.Report.{tells_replaced}
 use Rattle.report_writing.specs.Tables.{head_text, uses_text, refused_text, ranks_text}
@@ -23,13 +21,13 @@ tables_text ticks frame all t refused ranks ordered =
     ++ reserved_text frame all ordered))))
 
 -- The text is the tables of the report on a history, with all lives of flows or with those that asked most
-pub record IsReportTables (all : Bool) (c : Config) (h : List Entry) (text : List ℕ) : Type 0 where
+pub record IsReportTables (all : Bool) (w : Window) (text : List ℕ) : Type 0 where
   pub refused : List ℕ
-  pub counts : CountsRefusals refused h
+  pub counts : CountsRefusals refused (entries_of w)
   pub ranks : List RankTold
-  pub are_ranks : AreRanksTold c h ranks
+  pub are_ranks : AreRanksTold w ranks
   pub lives : List LifeNumbers
-  pub are_lives : AreLivesTold c h lives
+  pub are_lives : AreLivesTold w lives
   pub ordered : List LifeNumbers
   pub are_ordered : AreOrdered all lives ordered
-  pub text_is : text ≡ tables_text c.ticks c.frame all (totals_of c h) refused ranks ordered
+  pub text_is : text ≡ tables_text w.config.ticks w.config.frame all (totals_told w) refused ranks ordered

@@ -5,7 +5,7 @@ ghost use Rattle.history_writing.specs.Tokens.{tokens_of};
 ghost use Rattle.report_writing.specs.Report.{kind_name, rank_of, life_data};
 
 use crate::cell::{Cell, Spread, put_object};
-use crate::members::told_if;
+use crate::members::{told_above_0, told_if};
 use crate::reserved::under_of;
 use flow_book::FlowSpec;
 use json::Writer;
@@ -13,9 +13,10 @@ use sched_report::{LifeNumbers, POLLED};
 use std::alloc::AllocError;
 
 // The keys of a life, in ascending order.
-static LIFE: [&str; 15] = [
+static LIFE: [&str; 16] = [
     "asked",
     "asks",
+    "carried",
     "delay",
     "dropped",
     "from",
@@ -94,6 +95,7 @@ pub(crate) fn put_life(
     let cells = [
         Cell::Count(life.sums.asked as u128),
         Cell::Count(life.sums.asks as u128),
+        Cell::Given(told_above_0(life.carried)),
         Cell::Delay(spread_of(life)),
         Cell::Count(life.dropped as u128),
         Cell::Count(life.from as u128),

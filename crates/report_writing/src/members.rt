@@ -45,7 +45,7 @@ pub(crate) fn told_if(told: bool, number: u128) -> Option<u128>
 }
 
 // A number that is told where it is not 0.
-fn told_above_0(number: u64) -> Option<u128>
+pub(crate) fn told_above_0(number: u64) -> Option<u128>
     ensures { result ≡ told_above_0 number }
 {
     told_if(number > 0, number as u128)

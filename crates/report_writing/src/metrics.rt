@@ -47,7 +47,7 @@ pub fn metrics_text(
 ) -> Result<Vec<u8>, AllocError>
     requires { config.now ≡ reporter.now.config }
     ensures { IfOk result (λ text.
-        IsReportMetrics reporter.now.config reporter.now.history text.items) }
+        IsReportMetrics reporter.now text.items) }
 {
     let ticks = config.ticks();
     let lives = lives_told(alloc, reporter)?;

@@ -85,7 +85,7 @@ fn put_report(
 /// The report on the entries that were taken as JSON without spaces, keys in ascending order, and one newline.
 pub fn json_text(alloc: Global, reporter: &Reporter) -> Result<Vec<u8>, AllocError>
     ensures { IfOk result (λ text.
-        IsReportText reporter.now.config reporter.now.history text.items) }
+        IsReportText reporter.now text.items) }
 {
     let lives = lives_told(alloc, reporter)?;
     let ranks = ranks_told(alloc, reporter)?;

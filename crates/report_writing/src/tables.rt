@@ -31,7 +31,7 @@ pub fn report_text(
 ) -> Result<Vec<u8>, AllocError>
     requires { config.now ≡ reporter.now.config }
     ensures { IfOk result (λ text.
-        IsReportTables all reporter.now.config reporter.now.history text.items) }
+        IsReportTables all reporter.now text.items) }
 {
     let ticks = config.ticks();
     let mut lives = lives_told(alloc, reporter)?;

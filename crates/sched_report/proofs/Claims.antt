@@ -1,12 +1,13 @@
 -- The requests of a life with one entry more.
 use Rattle.std.proofs.Common.{◌≡◌, ℕ, ◌+◌, ◌<◌, ◌≤◌, ◌==◌, ◌&&◌, ◌||◌, Bool, true, false, List, [], ◌∷◌, ◌++◌}
-use Rattle.std.proofs.Common.{map, length, Option, None, Some, refl, sym, ap, ◌∙◌, subst, append_assoc, arith}
+use Rattle.std.proofs.Common.{map, length, take, drop, Option, None, Some, refl, sym, ap, ◌∙◌, subst, append_assoc, arith}
 use Rattle.std.proofs.Common.{if◌then◌else◌, length-append, inl, inr}
 use Rattle.std.specs.Prelude.{nat_lt}
 use Rattle.std.specs.List.{list_any}
 use Rattle.std.specs.Option.{option_map_or}
 use Rattle.std.proofs.lemmas.Bool.{cases_lt, lt-ltb, le-ltb}
-use Rattle.std.proofs.lemmas.List.{append-nil, map-append, length-map}
+use Rattle.std.proofs.lemmas.List.{append-nil, map-append, length-map, take-append-drop, take-append-le, drop-append-le}
+use Rattle.std.proofs.lemmas.List.{length-drop}
 use Rattle.minislots.specs.declared.config.Config.{Config}
 use Rattle.flow_book.specs.declared.flow.Grant.{Grant}
 use Rattle.flow_book.specs.Flows.{bytes_of}
@@ -195,11 +196,20 @@ module _ (c : Config) (sid : ℕ) where
       (sym (map-append (claim_with e) here later))
 
   -- the requests with one entry more
-  pub claims_in-push : (es : List Entry) (e : Entry)
-      → claims_in c sid (es ++ e ∷ [])
-      ≡ map (claim_with e) (claims_in c sid es)
+  pub claims_in-push : (p : ℕ) (es : List Entry) (e : Entry) → p ≤ length es
+      → claims_in c sid p (es ++ e ∷ [])
+      ≡ map (claim_with e) (claims_in c sid p es)
       ++ claim_made c sid (es ++ e ∷ []) (request_by c sid e.call e.reply) []
-  claims_in-push es e = claims_after-push [] es e
+  claims_in-push p es e within =
+      let front : List Entry = take p es in
+      let rest : List Entry = drop p es in
+      let whole : front ++ (rest ++ e ∷ []) ≡ es ++ e ∷ [] =
+      sym (append_assoc front rest (e ∷ [])) ∙ ap (λ (xs : List Entry). xs ++ e ∷ []) (take-append-drop p es) in
+      ap (λ (xs : List Entry). claims_after c sid xs (drop p (es ++ e ∷ []))) (take-append-le p es (e ∷ []) within)
+      ∙ ap (claims_after c sid front) (drop-append-le p es (e ∷ []) within)
+      ∙ claims_after-push front rest e
+      ∙ ap (λ (xs : List Entry). map (claim_with e) (claims_after c sid front rest)
+      ++ claim_made c sid xs (request_by c sid e.call e.reply) []) whole
 
   one_claim : (upto es : List Entry) (o : Option Request) → length (claim_made c sid upto o es) ≤ 1
   one_claim upto es None = omega arith
@@ -217,8 +227,8 @@ module _ (c : Config) (sid : ℕ) where
       )
 
   -- there are no more requests than entries
-  pub few_claims : (es : List Entry) → length (claims_in c sid es) ≤ length es
-  few_claims es = few_after [] es
+  pub few_claims : (p : ℕ) (es : List Entry) → length (claims_in c sid p es) ≤ length es
+  few_claims p es = omega (arith, few_after (take p es) (drop p es), length-drop p es)
 
 -- requests where one more supersedes them, or not
 abbrev pub claims_before : Bool → List Claim → List Claim
@@ -229,19 +239,20 @@ abbrev pub claim_for : List Grant → ℕ → Option Request → List Claim
 claim_for grants asked None = []
 claim_for grants asked (Some r) = waits_with grants (record { upto = asked + r.bytes; heard = r.heard }) ∷ []
 
-module _ (c : Config) (sid : ℕ) (es : List Entry) (e : Entry) (ungranted : grants_by sid e.reply ≡ []) where
+module _ (c : Config) (sid p : ℕ) (es : List Entry) (e : Entry) (within : p ≤ length es)
+    (ungranted : grants_by sid e.reply ≡ []) where
   grants-same : grants_since sid (es ++ e ∷ []) ≡ grants_since sid es
   grants-same = grants_since-push sid es e ∙ ap (λ (gs : List Grant). grants_since sid es ++ gs) ungranted
       ∙ append-nil (grants_since sid es)
 
   before-by : (b : Bool) → supersedes sid e ≡ b
-      → map (claim_with c sid e) (claims_in c sid es) ≡ claims_before b (claims_in c sid es)
+      → map (claim_with c sid e) (claims_in c sid p es) ≡ claims_before b (claims_in c sid p es)
   before-by true is =
-      ap (λ b. map (λ m. if b then as_superseded m else with_grants (grants_by sid e.reply) m) (claims_in c sid es)) is
+      ap (λ b. map (λ m. if b then as_superseded m else with_grants (grants_by sid e.reply) m) (claims_in c sid p es)) is
   before-by false is =
-      ap (λ b. map (λ m. if b then as_superseded m else with_grants (grants_by sid e.reply) m) (claims_in c sid es)) is
-      ∙ ap (λ (gs : List Grant). map (with_grants gs) (claims_in c sid es)) ungranted
-      ∙ same_claims (claims_in c sid es)
+      ap (λ b. map (λ m. if b then as_superseded m else with_grants (grants_by sid e.reply) m) (claims_in c sid p es)) is
+      ∙ ap (λ (gs : List Grant). map (with_grants gs) (claims_in c sid p es)) ungranted
+      ∙ same_claims (claims_in c sid p es)
 
   made-by : (o : Option Request) → request_by c sid e.call e.reply ≡ o
       → claim_made c sid (es ++ e ∷ []) o []
@@ -266,30 +277,30 @@ module _ (c : Config) (sid : ℕ) (es : List Entry) (e : Entry) (ungranted : gra
       } ∷ []) seen
 
   -- the requests with an entry more that has no MAP
-  claims-noted : claims_in c sid (es ++ e ∷ [])
-      ≡ claims_before (supersedes sid e) (claims_in c sid es)
+  claims-noted : claims_in c sid p (es ++ e ∷ [])
+      ≡ claims_before (supersedes sid e) (claims_in c sid p es)
       ++ claim_for (grants_since sid es) (asked_before c sid (supersedes sid e) es) (request_by c sid e.call e.reply)
   claims-noted =
-      claims_in-push c sid es e
+      claims_in-push c sid p es e within
       ∙ ap (λ (ms : List Claim). ms ++ claim_made c sid (es ++ e ∷ []) (request_by c sid e.call e.reply) [])
       (before-by (supersedes sid e) refl)
-      ∙ ap (λ (ms : List Claim). claims_before (supersedes sid e) (claims_in c sid es) ++ ms)
+      ∙ ap (λ (ms : List Claim). claims_before (supersedes sid e) (claims_in c sid p es) ++ ms)
       (made-by (request_by c sid e.call e.reply) refl)
 
   -- what is kept of a life with an entry more that has no MAP
   pub after-noted : (s : Service) (b : Bool) (o : Option Request) → supersedes sid e ≡ b
       → request_by c sid e.call e.reply ≡ o
-      → IsServiceOf c s (claims_before b (claims_in c sid es)
+      → IsServiceOf c s (claims_before b (claims_in c sid p es)
       ++ claim_for (grants_since sid es) (asked_before c sid b es) o)
       (asked_before c sid b es + bytes_or_none o) (grants_since sid es)
-      → IsServiceAfter c s sid (es ++ e ∷ [])
+      → IsServiceAfter c s sid p (es ++ e ∷ [])
   after-noted s b o supersedes_is request_is service =
-      let claims : claims_in c sid (es ++ e ∷ []) ≡ claims_before b (claims_in c sid es)
+      let claims : claims_in c sid p (es ++ e ∷ []) ≡ claims_before b (claims_in c sid p es)
       ++ claim_for (grants_since sid es) (asked_before c sid b es) o =
       claims-noted
-      ∙ ap (λ b. claims_before b (claims_in c sid es)
+      ∙ ap (λ b. claims_before b (claims_in c sid p es)
       ++ claim_for (grants_since sid es) (asked_before c sid b es) (request_by c sid e.call e.reply)) supersedes_is
-      ∙ ap (λ o. claims_before b (claims_in c sid es)
+      ∙ ap (λ o. claims_before b (claims_in c sid p es)
       ++ claim_for (grants_since sid es) (asked_before c sid b es) o) request_is in
       let asked : asked_in c sid (es ++ e ∷ []) ≡ asked_before c sid b es + bytes_or_none o =
       asked-more c sid es e
@@ -297,9 +308,9 @@ module _ (c : Config) (sid : ℕ) (es : List Entry) (e : Entry) (ungranted : gra
       ∙ ap (λ o. asked_before c sid b es + bytes_or_none o) request_is in
       subst (λ (ms : List Claim). IsServiceOf c s ms (asked_in c sid (es ++ e ∷ [])) (grants_since sid (es ++ e ∷ [])))
       (sym claims)
-      (subst (λ n. IsServiceOf c s (claims_before b (claims_in c sid es)
+      (subst (λ n. IsServiceOf c s (claims_before b (claims_in c sid p es)
       ++ claim_for (grants_since sid es) (asked_before c sid b es) o) n (grants_since sid (es ++ e ∷ []))) (sym asked)
-      (subst (λ (gs : List Grant). IsServiceOf c s (claims_before b (claims_in c sid es)
+      (subst (λ (gs : List Grant). IsServiceOf c s (claims_before b (claims_in c sid p es)
       ++ claim_for (grants_since sid es) (asked_before c sid b es) o)
       (asked_before c sid b es + bytes_or_none o) gs) (sym grants-same) service))
 
@@ -312,18 +323,20 @@ with-none c s claims bytes grants service =
     (subst (λ n. IsServiceOf c s claims n grants) same service)
 
 -- what is kept of a life with an entry that does nothing to it
-pub after-unnoted : (c : Config) (s : Service) (sid : ℕ) (es : List Entry) (e : Entry) → grants_by sid e.reply ≡ []
-    → supersedes sid e ≡ false → request_by c sid e.call e.reply ≡ None → IsServiceAfter c s sid es
-    → IsServiceAfter c s sid (es ++ e ∷ [])
-after-unnoted c s sid es e ungranted stays silent service =
-    after-noted c sid es e ungranted s false None stays silent
-    (with-none c s (claims_in c sid es) (asked_in c sid es) (grants_since sid es) service)
+pub after-unnoted : (c : Config) (s : Service) (sid p : ℕ) (es : List Entry) (e : Entry) → p ≤ length es
+    → grants_by sid e.reply ≡ []
+    → supersedes sid e ≡ false → request_by c sid e.call e.reply ≡ None → IsServiceAfter c s sid p es
+    → IsServiceAfter c s sid p (es ++ e ∷ [])
+after-unnoted c s sid p es e within ungranted stays silent service =
+    after-noted c sid p es e within ungranted s false None stays silent
+    (with-none c s (claims_in c sid p es) (asked_in c sid es) (grants_since sid es) service)
 
-module _ (c : Config) (sid : ℕ) (es : List Entry) (e : Entry) (s : Service) (b : Bool) (is : supersedes sid e ≡ b) where
+module _ (c : Config) (sid p : ℕ) (es : List Entry) (e : Entry) (s : Service) (b : Bool)
+    (is : supersedes sid e ≡ b) where
   -- what is kept where a request is to be counted that supersedes those before, or not
   abbrev pub IsServiceBefore : Type 0
   IsServiceBefore =
-      IsServiceOf c s (claims_before b (claims_in c sid es)) (asked_before c sid b es) (grants_since sid es)
+      IsServiceOf c s (claims_before b (claims_in c sid p es)) (asked_before c sid b es) (grants_since sid es)
 
   few-before : (b : Bool) (ms : List Claim) → length (claims_before b ms) ≡ length ms
   few-before true ms = length-map ms as_superseded
@@ -333,12 +346,12 @@ module _ (c : Config) (sid : ℕ) (es : List Entry) (e : Entry) (s : Service) (b
   pub may_ask : IsServiceBefore → MayCount c sid es e → (r : Request) → request_by c sid e.call e.reply ≡ Some r
       → MayAsk c s r
   may_ask service may r asks = record {
-    claims = claims_before b (claims_in c sid es);
+    claims = claims_before b (claims_in c sid p es);
     bytes = asked_before c sid b es;
     grants = grants_since sid es;
     is = service;
     some = request-some c sid e.call e.reply r asks;
-    few = omega (arith, few-before b (claims_in c sid es), few_claims c sid es, may.few);
+    few = omega (arith, few-before b (claims_in c sid p es), few_claims c sid p es, may.few);
     fits = omega (
       arith,
       may.fits,
@@ -358,7 +371,8 @@ built_supersedes : (sid : ℕ) (call : Call) (m : FrameMap) → supersedes_by si
 built_supersedes sid (calls.Replace receiver other amount heard) m = refl
 built_supersedes sid call m = refl
 
-module _ (c : Config) (sid : ℕ) (es : List Entry) (e : Entry) (m : FrameMap) (built : e.reply ≡ replies.Built m) where
+module _ (c : Config) (sid p : ℕ) (es : List Entry) (e : Entry) (within : p ≤ length es) (m : FrameMap)
+    (built : e.reply ≡ replies.Built m) where
   silent : request_by c sid e.call e.reply ≡ None
   silent = ap (λ (r : Reply). request_by c sid e.call r) built ∙ built_request c sid e.call m
 
@@ -372,24 +386,24 @@ module _ (c : Config) (sid : ℕ) (es : List Entry) (e : Entry) (m : FrameMap) (
       ∙ ap (λ b. asked_before c sid b es + bytes_or_none (request_by c sid e.call e.reply)) stays
       ∙ ap (λ o. asked_in c sid es + bytes_or_none o) silent ∙ omega arith
 
-  claims-built : claims_in c sid (es ++ e ∷ []) ≡ map (with_grants (grants_of_map sid m)) (claims_in c sid es)
+  claims-built : claims_in c sid p (es ++ e ∷ []) ≡ map (with_grants (grants_of_map sid m)) (claims_in c sid p es)
   claims-built =
-      claims_in-push c sid es e
-      ∙ ap (λ o. map (claim_with c sid e) (claims_in c sid es) ++ claim_made c sid (es ++ e ∷ []) o []) silent
-      ∙ append-nil (map (claim_with c sid e) (claims_in c sid es))
-      ∙ ap (λ b. map (λ x. if b then as_superseded x else with_grants (grants_by sid e.reply) x) (claims_in c sid es))
+      claims_in-push c sid p es e within
+      ∙ ap (λ o. map (claim_with c sid e) (claims_in c sid p es) ++ claim_made c sid (es ++ e ∷ []) o []) silent
+      ∙ append-nil (map (claim_with c sid e) (claims_in c sid p es))
+      ∙ ap (λ b. map (λ x. if b then as_superseded x else with_grants (grants_by sid e.reply) x) (claims_in c sid p es))
       stays
-      ∙ ap (λ (r : Reply). map (with_grants (grants_by sid r)) (claims_in c sid es)) built
+      ∙ ap (λ (r : Reply). map (with_grants (grants_by sid r)) (claims_in c sid p es)) built
 
   -- what is kept of a life with a MAP more
-  pub after-built : (s : Service) → IsServiceOf c s (map (with_grants (grants_of_map sid m)) (claims_in c sid es))
-      (asked_in c sid es) (grants_since sid es ++ grants_of_map sid m) → IsServiceAfter c s sid (es ++ e ∷ [])
+  pub after-built : (s : Service) → IsServiceOf c s (map (with_grants (grants_of_map sid m)) (claims_in c sid p es))
+      (asked_in c sid es) (grants_since sid es ++ grants_of_map sid m) → IsServiceAfter c s sid p (es ++ e ∷ [])
   after-built s service =
       let grants : grants_since sid (es ++ e ∷ []) ≡ grants_since sid es ++ grants_of_map sid m =
       grants_since-push sid es e ∙ ap (λ (r : Reply). grants_since sid es ++ grants_by sid r) built in
       subst (λ (ms : List Claim). IsServiceOf c s ms (asked_in c sid (es ++ e ∷ []))
       (grants_since sid (es ++ e ∷ []))) (sym claims-built)
-      (subst (λ n. IsServiceOf c s (map (with_grants (grants_of_map sid m)) (claims_in c sid es)) n
+      (subst (λ n. IsServiceOf c s (map (with_grants (grants_of_map sid m)) (claims_in c sid p es)) n
       (grants_since sid (es ++ e ∷ []))) (sym asked-built)
-      (subst (λ (gs : List Grant). IsServiceOf c s (map (with_grants (grants_of_map sid m)) (claims_in c sid es))
+      (subst (λ (gs : List Grant). IsServiceOf c s (map (with_grants (grants_of_map sid m)) (claims_in c sid p es))
       (asked_in c sid es) gs) (sym grants) service))

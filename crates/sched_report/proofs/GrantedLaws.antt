@@ -50,7 +50,7 @@ module _ (c : Config) where
   HasMore-none gs most n t none zero = record {
     sid = refl;
     spec = refl;
-    from = refl;
+    beginning = refl;
     to = refl;
     ended = λ never. refl;
     service = λ alive claims bytes before is.
@@ -68,7 +68,7 @@ module _ (c : Config) where
   HasMore-then gs hs k l m n a b d first second = record {
     sid = second.sid ∙ first.sid;
     spec = second.spec ∙ first.spec;
-    from = second.from ∙ first.from;
+    beginning = second.beginning ∙ first.beginning;
     to = second.to ∙ first.to;
     ended = λ never. second.ended (λ alive. never (sym first.to ∙ alive)) ∙ first.ended never;
     service = λ alive claims bytes before is.
@@ -88,7 +88,7 @@ module _ (c : Config) where
       let wider : HasMore c gs l m a b = record {
         sid = more.sid;
         spec = more.spec;
-        from = more.from;
+        beginning = more.beginning;
         to = more.to;
         ended = more.ended;
         service = more.service;
@@ -275,11 +275,11 @@ module _ (c : Config) (old : LifeTally) (life : PastLife) (slot : ℕ) (e : Entr
             ap (λ (spec : FlowSpec). unsolicited_of_map met spec old.sid m) is.spec
             ∙ ap (λ (sid : ℕ). unsolicited_of_map met (spec_of life) sid m) is.sid
             ∙ ap (λ (met : List Met). unsolicited_of_map met (spec_of life) life.sid m) (meets alive) in
-            goes_on-granted c old life slot e is may alive stays new more.sid more.spec more.from more.to m built
+            goes_on-granted c old life slot e is may alive stays new more.sid more.spec more.beginning more.to m built
             (omega (arith, more.counted none, same)) (omega (arith, more.few, (may.orderly m built).within))
             (subst (λ (sid : ℕ). IsServiceOf c new.service
-            (map (with_grants (grants_of_map sid m)) (claims_in c life.sid life.since))
+            (map (with_grants (grants_of_map sid m)) (claims_in c life.sid life.passed life.since))
             (asked_in c life.sid life.since) (grants_since life.sid life.since ++ grants_of_map sid m)) is.sid
-            (more.service none (claims_in c life.sid life.since) (asked_in c life.sid life.since)
+            (more.service none (claims_in c life.sid life.passed life.since) (asked_in c life.sid life.since)
             (grants_since life.sid life.since) is.service))
       ]

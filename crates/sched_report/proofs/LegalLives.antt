@@ -1,11 +1,11 @@
 -- The lives of a legal history: those that have not ended are the flows that live.
-use Rattle.std.proofs.Common.{◌≡◌, ℕ, ◌≤◌, Bool, true, false, List, [], ◌∷◌, ◌++◌, map, length, Option, None}
+use Rattle.std.proofs.Common.{◌≡◌, ℕ, ◌+◌, ◌<◌, ◌≤◌, Bool, true, false, List, [], ◌∷◌, ◌++◌, map, length, Option, None}
 use Rattle.std.proofs.Common.{Some, refl, sym, ap, ◌∙◌, subst, append_assoc, if◌then◌else◌, arith}
 use Rattle.std.specs.Prelude.{is_some}
 use Rattle.std.specs.List.{AllByRecursion}
 use Rattle.std.specs.Option.{option_map}
 use Rattle.std.proofs.lemmas.Bool.{eq-eqb}
-use Rattle.std.proofs.lemmas.List.{append-nil, length_push}
+use Rattle.std.proofs.lemmas.List.{append-nil, length_push, length-append}
 use Rattle.minislots.specs.declared.config.Config.{Config}
 use Rattle.sched_calls.specs.declared.spec.FlowSpec.{FlowSpec}
 use Rattle.sched_calls.specs.declared.call.Call.{Call}
@@ -21,7 +21,7 @@ use Rattle.periodic.proofs.Joined.{all-append}
 use Rattle.sched_history.proofs.steps.LegalHistories.{accepted, legal_induction}
 use Rattle.sched_history.proofs.steps.Passed.{passed-admit}
 use Rattle.sched_report.specs.declared.lives.Opening.{Opening}
-use Rattle.sched_report.specs.Lives.{PastLife, opening_by, is_turn, life_begun, lives_of, with_entry}
+use Rattle.sched_report.specs.Lives.{PastLife, opening_by, is_turn, life_begun, lives_of, passing, with_entry}
 use Rattle.sched_report.proofs.PastLives.{lives_of-push}
 
 -- A life of the history: its SID is one of a flow, and where it has not ended it goes up to the history's end, and is
@@ -32,6 +32,8 @@ pub record IsLifeIn (h : List Entry) (life : PastLife) : Type 0 where
   pub few : length life.since ≤ length h
   pub whole : life.ended ≡ false → life.upto ++ life.since ≡ h
   pub lives : life.ended ≡ false → (l : Life) × (life_of life.sid h ≡ Some l) × (l.since ≡ life.since)
+  pub passed : life.ended ≡ false → life.passed ≤ length life.since
+  pub behind : life.ended ≡ true → length life.upto + length life.since < length h
 
 -- an entry that is no turn
 pub no_turn : (o : Option Turn) → is_some o ≡ false → o ≡ None
@@ -39,19 +41,21 @@ no_turn None dead = refl
 no_turn (Some turn) dead = absurd cc
 
 -- a life with one entry more
-module _ (h : List Entry) (e : Entry) (sid : ℕ) (first : FlowSpec) (upto since : List Entry) where
+module _ (h : List Entry) (e : Entry) (sid : ℕ) (first : FlowSpec) (upto since : List Entry) (passed : ℕ) where
   goes_on : (ended ends : Bool) → is_turn sid e ≡ ends
-      → IsLifeIn h (record { sid = sid; first = first; upto = upto; since = since; ended = ended })
+      → IsLifeIn h (record { sid = sid; first = first; upto = upto; since = since; ended = ended; passed = passed })
       → IsLifeIn (h ++ e ∷ []) (if ended
-      then record { sid = sid; first = first; upto = upto; since = since; ended = ended }
-      else if ends then record { sid = sid; first = first; upto = upto; since = since; ended = true }
-      else record { sid = sid; first = first; upto = upto; since = since ++ e ∷ []; ended = ended })
+      then record { sid = sid; first = first; upto = upto; since = since; ended = ended; passed = passed }
+      else if ends then record { sid = sid; first = first; upto = upto; since = since; ended = true; passed = passed }
+      else record { sid = sid; first = first; upto = upto; since = since ++ e ∷ []; ended = ended; passed = passed })
   goes_on true ends is life = record {
     least = life.least;
     most = life.most;
     few = omega (arith, life.few, length_push h e);
     whole = λ alive. absurd (cc);
     lives = λ alive. absurd (cc);
+    passed = λ alive. absurd (cc);
+    behind = λ ended. omega (arith, life.behind refl, length_push h e);
   }
   goes_on false true is life = record {
     least = life.least;
@@ -59,6 +63,9 @@ module _ (h : List Entry) (e : Entry) (sid : ℕ) (first : FlowSpec) (upto since
     few = omega (arith, life.few, length_push h e);
     whole = λ alive. absurd (cc);
     lives = λ alive. absurd (cc);
+    passed = λ alive. absurd (cc);
+    behind = λ ended.
+        omega (arith, length-append upto since, ap (λ (es : List Entry). length es) (life.whole refl), length_push h e);
   }
   goes_on false false is life =
       let l = life.lives refl in
@@ -73,13 +80,15 @@ module _ (h : List Entry) (e : Entry) (sid : ℕ) (first : FlowSpec) (upto since
           life_of-stays sid h e (no_turn (turn_of sid e) is) ∙ ap (option_map (with_since e)) l.1,
           ap (λ (es : List Entry). es ++ e ∷ []) l.2,
         );
+        passed = λ alive. omega (arith, life.passed refl, length_push since e);
+        behind = λ ended. absurd (cc);
       }
 
 go_on : (h : List Entry) (e : Entry) (lives : List PastLife) → AllByRecursion (IsLifeIn h) lives
     → AllByRecursion (IsLifeIn (h ++ e ∷ [])) (map (with_entry e) lives)
 go_on h e [] all = tt
 go_on h e (life ∷ lives) all = (
-  goes_on h e life.sid life.first life.upto life.since life.ended (is_turn life.sid e) refl all.0,
+  goes_on h e life.sid life.first life.upto life.since life.passed life.ended (is_turn life.sid e) refl all.0,
   go_on h e lives all.1,
 )
 
@@ -122,6 +131,8 @@ begun c h e (Some o) step is =
           life_of-begins o.sid h e b.admission b.turn,
           refl,
         );
+        passed = λ alive. omega arith;
+        behind = λ ended. absurd (cc);
       },
       tt,
     )
@@ -137,3 +148,21 @@ lives_more c h e legal step all =
 -- the lives of a legal history are its flows'
 pub are_lives : (c : Config) (h : List Entry) → IsLegal c h → AllByRecursion (IsLifeIn h) (lives_of h)
 are_lives c = legal_induction c (λ h. AllByRecursion (IsLifeIn h) (lives_of h)) (lives_more c) tt
+
+-- a life of a history is one where so many entries of that came before what is told
+pub passing-in : (h : List Entry) (p : ℕ) (life : PastLife) → p ≤ length h → IsLifeIn h life
+    → IsLifeIn h (passing p life)
+passing-in h p life few is = record {
+  least = is.least;
+  most = is.most;
+  few = is.few;
+  whole = is.whole;
+  lives = is.lives;
+  passed = λ alive. omega (
+    arith,
+    few,
+    length-append life.upto life.since,
+    ap (λ (es : List Entry). length es) (is.whole alive),
+  );
+  behind = is.behind;
+}

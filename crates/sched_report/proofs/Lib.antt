@@ -18,6 +18,7 @@ pub mod LifeNotes
 pub mod LifeTold
 pub mod LivesEach
 pub mod LivesGoing
+pub mod Renewed
 pub mod Naming
 pub mod GrantedLaws
 pub mod LiveNow

@@ -1,9 +1,11 @@
 -- What is told of a life with one entry more.
-use Rattle.std.proofs.Common.{◌≡◌, ℕ, ◌+◌, ◌*◌, ◌≤◌, ◌^◌, Bool, true, false, List, [], ◌∷◌, ◌++◌, map}
+use Rattle.std.proofs.Common.{◌≡◌, ℕ, ◌+◌, ◌-◌, ◌*◌, ◌≤◌, ◌^◌, Bool, true, false, not, List, [], ◌∷◌, ◌++◌, map, length}
+use Rattle.std.proofs.Common.{take, drop}
 use Rattle.std.proofs.Common.{Option, None, Some, refl, sym, ap, ◌∙◌, subst, if◌then◌else◌, append_assoc, arith}
 use Rattle.std.specs.Prelude.{is_some}
 use Rattle.std.specs.Option.{option_map_or}
-use Rattle.std.proofs.lemmas.List.{append-nil, length_push}
+use Rattle.std.proofs.lemmas.Bool.{le-ltb}
+use Rattle.std.proofs.lemmas.List.{append-nil, length_push, take-append-drop, take-append-le, drop-append-le}
 use Rattle.minislots.specs.declared.config.Config.{Config}
 use Rattle.sched_calls.specs.declared.spec.FlowSpec.{FlowSpec}
 use Rattle.flow_book.specs.Flows.{bytes_of}
@@ -19,6 +21,7 @@ use Rattle.sched_history.specs.Reserves.{met_after}
 use Rattle.sched_history.specs.Time.{next_after}
 use Rattle.sched_history.proofs.lists.Latests.{said-push}
 use Rattle.sched_history.proofs.lives.FlowsAfter.{grants_since-push}
+use Rattle.sched_report.specs.declared.life.Beginning.{Beginning}
 use Rattle.sched_report.specs.declared.life.LifeTally.{LifeTally}
 use Rattle.sched_report.specs.Served.{with_grants, IsServiceOf, IsServiceAfter, MayCount}
 use Rattle.sched_report.specs.Lives.{PastLife, new_spec, spec_after, spec_of, is_turn, with_entry}
@@ -100,6 +103,9 @@ module _ (c : Config) (t : LifeTally) (life : PastLife) (slot : ℕ) (e : Entry)
   abbrev more : PastLife
   more = record life { since = life.since ++ e ∷ [] }
 
+  within : life.passed ≤ length life.since
+  within = may.passed alive
+
   with_entry-stays : with_entry e life ≡ more
   with_entry-stays =
       ap (λ b. if b then life else if is_turn life.sid e then record life { ended = true } else more) alive
@@ -107,29 +113,48 @@ module _ (c : Config) (t : LifeTally) (life : PastLife) (slot : ℕ) (e : Entry)
 
   -- the life goes on with what the entry has of requests, of parameters and of grants
   goes_on : (new : LifeTally) → new.sid ≡ t.sid
-      → new.spec ≡ option_map_or (λ given. given) (new_spec life.sid e.call e.reply) t.spec → new.from ≡ t.from
+      → new.spec ≡ option_map_or (λ given. given) (new_spec life.sid e.call e.reply) t.spec
+      → new.beginning ≡ t.beginning
       → new.to ≡ t.to
       → new.unsolicited ≡ t.unsolicited
       + unsolicited_by (met_after c (life.upto ++ life.since) e.reply) (spec_of life) life.sid e.reply
       → new.unsolicited ≤ t.unsolicited + 2 ^ 32 * 240
-      → IsServiceAfter c new.service life.sid (life.since ++ e ∷ []) → IsLifeOf c new (with_entry e life)
-  goes_on new sid spec from to counted few service =
+      → IsServiceAfter c new.service life.sid life.passed (life.since ++ e ∷ []) → IsLifeOf c new (with_entry e life)
+  goes_on new sid spec begun to counted few service =
+      let more_since : List Entry = life.since ++ e ∷ [] in
+      let front : take life.passed more_since ≡ take life.passed life.since =
+      take-append-le life.passed life.since (e ∷ []) within in
+      let rest : drop life.passed more_since ≡ drop life.passed life.since ++ e ∷ [] =
+      drop-append-le life.passed life.since (e ∷ []) within in
       subst (IsLifeOf c new) (sym with_entry-stays) (record {
         sid = sid ∙ is.sid;
         spec = spec
             ∙ ap (λ s. option_map_or (λ given. given) (new_spec life.sid e.call e.reply) s) is.spec
             ∙ sym (spec_after-push life.sid life.first life.since e);
-        from = from ∙ is.from;
+        from = ap (λ (b : Beginning). b.from) begun ∙ is.from
+            ∙ ap (λ (es : List Entry). next_after c (life.upto ++ es)) (sym front);
         to = to ∙ is.to
             ∙ ap (λ b. if b then Some (next_after c (life.upto ++ life.since)) else None) alive
             ∙ sym (ap (λ b. if b then Some (next_after c (life.upto ++ (life.since ++ e ∷ []))) else None) alive);
         service = service;
+        before = ap (λ (b : Beginning). b.granted) begun ∙ is.before
+            ∙ ap (λ (es : List Entry). bytes_of (grants_since life.sid es)) (sym front);
+        carried = ap (λ (b : Beginning). b.carried) begun ∙ is.carried
+            ∙ ap (λ (es : List Entry). asked_in c life.sid es - bytes_of (grants_since life.sid es)) (sym front);
+        told = ap (λ (b : Beginning). b.is_live) begun ∙ is.told
+            ∙ ap not (le-ltb (length life.since) life.passed within)
+            ∙ sym (ap not (le-ltb (length more_since) life.passed (omega (arith, within, length_push life.since e))));
         few = omega (arith, may.few, length_push life.since e);
         unsolicited = omega (
           arith,
           counted,
           is.unsolicited,
-          unsolicited_after-push c life.sid life.first life.upto [] life.since e,
+          ap (λ (es : List Entry). unsolicited_after c life.sid life.first life.upto es (drop life.passed more_since))
+              front,
+          ap (unsolicited_after c life.sid life.first life.upto (take life.passed life.since)) rest,
+          unsolicited_after-push c life.sid life.first life.upto (take life.passed life.since)
+              (drop life.passed life.since) e,
+          ap (unsolicited_behind c life.sid life.first life.upto e) (take-append-drop life.passed life.since),
         );
         bounded = omega (arith, few, is.bounded, length_push life.since e);
       })
@@ -140,11 +165,11 @@ module _ (c : Config) (t : LifeTally) (life : PastLife) (slot : ℕ) (e : Entry)
 
   -- and with it the life goes on
   pub goes_on-noted : HasNoMap e.reply → (new : LifeTally) → new.sid ≡ t.sid
-      → new.spec ≡ option_map_or (λ given. given) (new_spec life.sid e.call e.reply) t.spec → new.from ≡ t.from
-      → new.to ≡ t.to → new.unsolicited ≡ t.unsolicited
-      → IsServiceAfter c new.service life.sid (life.since ++ e ∷ []) → IsLifeOf c new (with_entry e life)
-  goes_on-noted unbuilt new sid spec from to same service =
-      goes_on new sid spec from to
+      → new.spec ≡ option_map_or (λ given. given) (new_spec life.sid e.call e.reply) t.spec
+      → new.beginning ≡ t.beginning → new.to ≡ t.to → new.unsolicited ≡ t.unsolicited
+      → IsServiceAfter c new.service life.sid life.passed (life.since ++ e ∷ []) → IsLifeOf c new (with_entry e life)
+  goes_on-noted unbuilt new sid spec begun to same service =
+      goes_on new sid spec begun to
       (omega (
         arith,
         same,
@@ -156,38 +181,38 @@ module _ (c : Config) (t : LifeTally) (life : PastLife) (slot : ℕ) (e : Entry)
   pub may_grant_map : (m : FrameMap) → e.reply ≡ replies.Built m
       → MayGrantAll c t.service (grants_of_map life.sid m)
   may_grant_map m built =
-      let same = asked-built c life.sid life.since e m built in
+      let same = asked-built c life.sid life.passed life.since e within m built in
       let pushed : grants_since life.sid (life.since ++ e ∷ [])
       ≡ grants_since life.sid life.since ++ grants_of_map life.sid m =
       grants_since-push life.sid life.since e
       ∙ ap (λ (r : Reply). grants_since life.sid life.since ++ grants_by life.sid r) built in
       record {
-        claims = claims_in c life.sid life.since;
+        claims = claims_in c life.sid life.passed life.since;
         bytes = asked_in c life.sid life.since;
         grants = grants_since life.sid life.since;
         is = is.service;
         lawful = may.lawful;
-        few = omega (arith, few_claims c life.sid life.since, may.few);
+        few = omega (arith, few_claims c life.sid life.passed life.since, may.few);
         fits = omega (arith, (may.within alive stays).1, same);
         within = omega (arith, (may.within alive stays).0, same, ap bytes_of pushed);
       }
 
   -- and with them the life goes on
-  pub goes_on-granted : (new : LifeTally) → new.sid ≡ t.sid → new.spec ≡ t.spec → new.from ≡ t.from
+  pub goes_on-granted : (new : LifeTally) → new.sid ≡ t.sid → new.spec ≡ t.spec → new.beginning ≡ t.beginning
       → new.to ≡ t.to → (m : FrameMap) → e.reply ≡ replies.Built m
       → new.unsolicited ≡ t.unsolicited
       + unsolicited_of_map (met_after c (life.upto ++ life.since) e.reply) (spec_of life) life.sid m
       → new.unsolicited ≤ t.unsolicited + 2 ^ 32 * 240
-      → IsServiceOf c new.service (map (with_grants (grants_of_map life.sid m)) (claims_in c life.sid life.since))
+      → IsServiceOf c new.service (map (with_grants (grants_of_map life.sid m)) (claims_in c life.sid life.passed life.since))
       (asked_in c life.sid life.since) (grants_since life.sid life.since ++ grants_of_map life.sid m)
       → IsLifeOf c new (with_entry e life)
-  goes_on-granted new sid spec from to m built counted few service =
+  goes_on-granted new sid spec begun to m built counted few service =
       let none : new_spec life.sid e.call e.reply ≡ None =
       ap (λ (r : Reply). new_spec life.sid e.call r) built ∙ built_spec life.sid e.call m in
-      goes_on new sid (spec ∙ sym (ap (λ o. option_map_or (λ given. given) o t.spec) none)) from to
+      goes_on new sid (spec ∙ sym (ap (λ o. option_map_or (λ given. given) o t.spec) none)) begun to
       (omega (
         arith,
         counted,
         ap (unsolicited_by (met_after c (life.upto ++ life.since) e.reply) (spec_of life) life.sid) built,
       )) few
-      (after-built c life.sid life.since e m built new.service service)
+      (after-built c life.sid life.passed life.since e within m built new.service service)

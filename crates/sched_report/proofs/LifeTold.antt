@@ -1,14 +1,20 @@
 -- The numbers of a life by what is told of it.
-use Rattle.std.proofs.Common.{◌≡◌, ℕ, ◌≤◌, ◌^◌, Bool, true, false, List, [], ◌∷◌, length, get_or}
+use Rattle.std.proofs.Common.{◌≡◌, ℕ, ◌+◌, ◌≤◌, ◌^◌, Bool, true, false, List, [], ◌∷◌, length, take, drop, get_or}
 use Rattle.std.proofs.Common.{Option, None, Some, refl, sym, ap, ◌∙◌, subst, if◌then◌else◌, arith}
 use Rattle.std.specs.Prelude.{is_some, unwrap_or}
 use Rattle.minislots.specs.declared.config.Config.{Config}
 use Rattle.sched_calls.specs.declared.spec.FlowSpec.{FlowSpec}
 use Rattle.sched_calls.specs.declared.spec.FlowSpec.TheVariants.{Unsolicited, Polled, BestEffort}
-use Rattle.sched_history.specs.Life.{asked_in, grants_since}
+use Rattle.std.proofs.lemmas.Grind.{flat_map-append}
+use Rattle.std.proofs.lemmas.List.{take-append-drop}
+use Rattle.std.proofs.lemmas.List.Sums.{sum_by-append}
+use Rattle.flow_book.specs.declared.flow.Grant.{Grant}
+use Rattle.flow_book.specs.Flows.{bytes_of}
+use Rattle.sched_calls.specs.declared.reply.Entry.{Entry}
+use Rattle.sched_history.specs.Life.{asked_in, grants_by, grants_since}
 use Rattle.sched_report.specs.declared.life.LifeTally.{LifeTally}
 use Rattle.sched_report.specs.Lives.{PastLife}
-use Rattle.sched_report.specs.Said.{claims_of, granted_under}
+use Rattle.sched_report.specs.Said.{claims_of, granted_before, grants_in, granted_under}
 use Rattle.sched_report.specs.Told.{IsLifeOf}
 use Rattle.sched_report.specs.ToldLives.{AreLives}
 use Rattle.sched_report.proofs.Claims.{few_claims}
@@ -42,7 +48,7 @@ granted_under-data (BestEffort priority rate burst peak reserved reserved-burst)
 module _ (c : Config) (t : LifeTally) (life : PastLife) (is : IsLifeOf c t life) where
   -- there are few requests
   pub few_asked : length (claims_of c life) ≤ 2 ^ 44
-  few_asked = omega (arith, few_claims c life.sid life.since, is.few)
+  few_asked = omega (arith, few_claims c life.sid life.passed life.since, is.few)
 
   -- and few are served
   pub few_told : t.service.delays.served ≤ 2 ^ 44
@@ -61,6 +67,16 @@ module _ (c : Config) (t : LifeTally) (life : PastLife) (is : IsLifeOf c t life)
         let first : k ≡ 0 = omega (arith, below) in
         subst (λ k. IsLifeOf c (get_or (t ∷ []) k u) (get_or (life ∷ []) k other)) (sym first) is;
   }
+
+-- the bytes of the data grants of a life are those before what is told, and those since
+pub granted-split : (life : PastLife) → bytes_of (grants_since life.sid life.since)
+    ≡ granted_before life + bytes_of (grants_in life)
+granted-split life =
+    let front : List Entry = take life.passed life.since in
+    let rest : List Entry = drop life.passed life.since in
+    ap (λ (es : List Entry). bytes_of (grants_since life.sid es)) (sym (take-append-drop life.passed life.since))
+    ∙ ap bytes_of (flat_map-append (λ (e : Entry). grants_by life.sid e.reply) front rest)
+    ∙ sum_by-append (λ (g : Grant). g.bytes) (grants_since life.sid front) (grants_since life.sid rest)
 
 -- where there is one, its life is the only one
 pub one_of : (c : Config) (t : LifeTally) (ls : List PastLife) → AreLives c (t ∷ []) ls

@@ -1,9 +1,9 @@
 -- What is told of lives, where one of them changes or one is added.
-use Rattle.std.proofs.Common.{◌≡◌, ℕ, ◌-◌, ◌<◌, true, List, [], ◌∷◌, ◌++◌, length, get_or, set, Some}
+use Rattle.std.proofs.Common.{◌≡◌, ℕ, ◌-◌, ◌<◌, ◌≤◌, true, List, [], ◌∷◌, ◌++◌, length, get_or, set, Some}
 use Rattle.std.proofs.Common.{refl, sym, ap, ◌∙◌, subst, inl, inr, arith}
 use Rattle.std.proofs.lemmas.Bool.{cases_eq, cases_lt}
 use Rattle.std.proofs.lemmas.List.{length_push, length-set, get_or-set_same, get_or-set_other, get_or-append_right}
-use Rattle.std.proofs.lemmas.List.{get_or_append_left}
+use Rattle.std.proofs.lemmas.List.{get_or_append_left, get_or-map, length-map}
 use Rattle.std.proofs.lemmas.List.Elements.{All-contains, All-from_recursion, Contains-get_or}
 use Rattle.minislots.specs.declared.config.Config.{Config}
 use Rattle.minislots.specs.Config.{IsLawful}
@@ -21,11 +21,11 @@ use Rattle.sched_history.specs.Time.{next_after}
 use Rattle.sched_report.specs.declared.life.LifeTally.{LifeTally}
 use Rattle.sched_report.specs.declared.lives.Opening.{Opening}
 use Rattle.sched_report.specs.declared.service.Request.{Request}
-use Rattle.sched_report.specs.Lives.{PastLife, opening_by, lives_of, IsRequest, IsOpening}
+use Rattle.sched_report.specs.Lives.{PastLife, opening_by, lives_of, passing, lives_in, IsRequest, IsOpening}
 use Rattle.sched_report.specs.Requests.{request_by}
 use Rattle.sched_report.specs.Told.{IsLifeOf}
 use Rattle.sched_report.specs.ToldLives.{AreLives, MayNoteEach, MeetsEach}
-use Rattle.sched_report.proofs.LegalLives.{IsLifeIn, are_lives}
+use Rattle.sched_report.proofs.LegalLives.{IsLifeIn, are_lives, passing-in}
 use Rattle.sched_report.proofs.MayNotes.{may_note}
 
 -- a request is one
@@ -42,7 +42,7 @@ is_opening call reply o is = absurd (cc)
 
 -- what a place past the end of a list of lives is read as; no definition depends on it
 abbrev pub no_life : PastLife
-no_life = record { sid = 0; first = BestEffort 0 0 0 0 0 0; upto = []; since = []; ended = true }
+no_life = record { sid = 0; first = BestEffort 0 0 0 0 0 0; upto = []; since = []; ended = true; passed = 0 }
 
 module _ (c : Config) (ts : List LifeTally) (ls : List PastLife) (are : AreLives c ts ls) where
   -- one of them changes, and what is told of its life stays
@@ -88,21 +88,24 @@ module _ (c : Config) (ts : List LifeTally) (ls : List PastLife) (are : AreLives
     ];
   }
 
--- each life of a legal history is one of its
-pub life_in : (c : Config) (h : List Entry) → IsLegal c h → (k : ℕ) (life : PastLife) → k < length (lives_of h)
-    → IsLifeIn h (get_or (lives_of h) k life)
-life_in c h legal k life below =
-    All-contains (IsLifeIn h) (lives_of h) (get_or (lives_of h) k life)
-    (All-from_recursion (IsLifeIn h) (lives_of h) (are_lives c h legal)) (Contains-get_or (lives_of h) k life below)
+module _ (c : Config) (p : ℕ) (h : List Entry) (legal : IsLegal c h) (few : p ≤ length h) where
+  -- each life of a legal history is one of its
+  pub life_in : (k : ℕ) (life : PastLife) → k < length (lives_in p h) → IsLifeIn h (get_or (lives_in p h) k life)
+  life_in k life below =
+      let within : k < length (lives_of h) = omega (arith, below, length-map (lives_of h) (passing p)) in
+      subst (IsLifeIn h) (sym (get_or-map (passing p) (lives_of h) k life life within))
+      (passing-in h p (get_or (lives_of h) k life) few
+      (All-contains (IsLifeIn h) (lives_of h) (get_or (lives_of h) k life)
+      (All-from_recursion (IsLifeIn h) (lives_of h) (are_lives c h legal))
+      (Contains-get_or (lives_of h) k life within)))
 
--- the entry may follow each life of a legal history
-pub may_note_each : (c : Config) → IsLawful c → (h : List Entry) → IsLegal c h → (e : Entry)
-    → IsStep c h e.call e.reply → length h < MAX_WHOLE_HISTORY → MayNoteEach c (lives_of h) (next_after c h) e
-may_note_each c lawful h legal e step short k life below =
-    may_note c lawful h legal e step short (get_or (lives_of h) k life) (life_in c h legal k life below)
+  -- the entry may follow each life of a legal history
+  pub may_note_each : IsLawful c → (e : Entry) → IsStep c h e.call e.reply → length h < MAX_WHOLE_HISTORY
+      → MayNoteEach c (lives_in p h) (next_after c h) e
+  may_note_each lawful e step short k life below =
+      may_note c lawful h legal e step short (get_or (lives_in p h) k life) (life_in k life below)
 
--- and its MAP meets in each of them what it meets in the history
-pub meets_each : (c : Config) (h : List Entry) → IsLegal c h → (e : Entry) (met : List Met)
-    → met ≡ met_after c h e.reply → MeetsEach c (lives_of h) e met
-meets_each c h legal e met meets k life below alive =
-    meets ∙ ap (λ (es : List Entry). met_after c es e.reply) (sym ((life_in c h legal k life below).whole alive))
+  -- and its MAP meets in each of them what it meets in the history
+  pub meets_each : (e : Entry) (met : List Met) → met ≡ met_after c h e.reply → MeetsEach c (lives_in p h) e met
+  meets_each e met meets k life below alive =
+      meets ∙ ap (λ (es : List Entry). met_after c es e.reply) (sym ((life_in k life below).whole alive))

@@ -77,6 +77,7 @@ module _ (c : Config) (lawful : IsLawful c) (h : List Entry) (legal : IsLegal c 
   may_note life is = record {
     lawful = lawful;
     few = omega (arith, is.few, short);
+    passed = λ alive. is.passed alive;
     next = λ alive. ap (next_after c) (sym (is.whole alive));
     within = granted_within life is;
     start = λ m built. (orderly_map m built).0;

@@ -156,7 +156,8 @@ goes_on-unnamed c t life slot e is may unbuilt unnamed =
           goes_on-noted c t life slot e is may alive (ap is_some none.stays) unbuilt t refl
           (sym (ap (λ (o : Option Admission).
           option_map_or (λ given. given) (option_map (λ given. given.spec) o) t.spec) none.unchanged)) refl refl refl
-          (after-unnoted c t.service life.sid life.since e none.ungranted none.supersedes_none none.silent is.service)
+          (after-unnoted c t.service life.sid life.passed life.since e (may.passed alive) none.ungranted none.supersedes_none
+          none.silent is.service)
     ]
 
 -- nor does a life where none is named

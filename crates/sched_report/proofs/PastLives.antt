@@ -1,12 +1,12 @@
 -- The lives of a history with one entry more.
-use Rattle.std.proofs.Common.{◌≡◌, ◌||◌, Bool, true, false, List, [], ◌∷◌, ◌++◌, map, Option, None, Some, refl, sym, ap}
-use Rattle.std.proofs.Common.{◌∙◌, if◌then◌else◌, append_assoc}
+use Rattle.std.proofs.Common.{◌≡◌, ℕ, ◌-◌, ◌≤◌, ◌||◌, Bool, true, false, List, [], ◌∷◌, ◌++◌, map, Option, None, Some, refl, sym, ap}
+use Rattle.std.proofs.Common.{◌∙◌, if◌then◌else◌, append_assoc, length, arith}
 use Rattle.std.specs.List.{list_any}
-use Rattle.std.proofs.lemmas.List.{append-nil, map-append}
+use Rattle.std.proofs.lemmas.List.{append-nil, map-append, length_push}
 use Rattle.sched_calls.specs.declared.reply.Entry.{Entry}
 use Rattle.sched_report.specs.declared.lives.Opening.{Opening}
 use Rattle.sched_report.specs.Lives.{PastLife, opening_by, is_turn, until, life_begun}
-use Rattle.sched_report.specs.Lives.{lives_after, lives_of, with_entry}
+use Rattle.sched_report.specs.Lives.{lives_after, lives_of, passing, lives_in, with_entry}
 
 -- some entries with one more, where one of them has passed a test or not, and the last one passes it or not
 abbrev pub more_until : Bool → Bool → Entry → List Entry → List Entry
@@ -45,7 +45,7 @@ module _ (test : Entry → Bool) where
 -- a life of a SID, with these entries
 abbrev life_with : Opening → List Entry → List Entry → Bool → PastLife
 life_with o upto since ended =
-    record { sid = o.sid; first = o.spec; upto = upto; since = since; ended = ended }
+    record { sid = o.sid; first = o.spec; upto = upto; since = since; ended = ended; passed = 0 }
 
 -- a life with one entry more, by whether it has ended and whether the entry ends it
 life_more : (o : Opening) (upto since more : List Entry) (ended ends last : Bool) (e : Entry)
@@ -94,3 +94,41 @@ pub lives_of-push : (h : List Entry) (e : Entry)
     → lives_of (h ++ e ∷ [])
     ≡ map (with_entry e) (lives_of h) ++ life_begun (h ++ e ∷ []) (opening_by e.call e.reply) []
 lives_of-push h e = lives_after-push [] h e
+
+-- an entry more and what came before what is told go by themselves
+passing-by : (p : ℕ) (e : Entry) (life : PastLife) (ended ends : Bool)
+    → passing p (if ended then life else if ends then record life { ended = true }
+    else record life { since = life.since ++ e ∷ [] })
+    ≡ (if ended then passing p life else if ends then record (passing p life) { ended = true }
+    else record (passing p life) { since = life.since ++ e ∷ [] })
+passing-by p e life true ends = refl
+passing-by p e life false true = refl
+passing-by p e life false false = refl
+
+passing-with : (p : ℕ) (e : Entry) (ls : List PastLife)
+    → map (passing p) (map (with_entry e) ls) ≡ map (with_entry e) (map (passing p) ls)
+passing-with p e [] = refl
+passing-with p e (life ∷ ls) =
+    ap (λ (l : PastLife). l ∷ map (passing p) (map (with_entry e) ls))
+    (passing-by p e life life.ended (is_turn life.sid e))
+    ∙ ap (λ (rest : List PastLife). with_entry e (passing p life) ∷ rest) (passing-with p e ls)
+
+-- nothing came before in a life that begins
+passing-begun : (p : ℕ) (upto : List Entry) (o : Option Opening) → p ≤ length upto
+    → map (passing p) (life_begun upto o []) ≡ life_begun upto o []
+passing-begun p upto None few = refl
+passing-begun p upto (Some o) few =
+    let none : p - length upto ≡ 0 = omega (arith, few) in
+    ap (λ (n : ℕ). record { sid = o.sid; first = o.spec; upto = upto; since = []; ended = false; passed = n } ∷ []) none
+
+-- the same where so many entries came before what is told
+pub lives_in-push : (p : ℕ) (h : List Entry) (e : Entry) → p ≤ length h
+    → lives_in p (h ++ e ∷ [])
+    ≡ map (with_entry e) (lives_in p h) ++ life_begun (h ++ e ∷ []) (opening_by e.call e.reply) []
+lives_in-push p h e few =
+    ap (map (passing p)) (lives_of-push h e)
+    ∙ map-append (passing p) (map (with_entry e) (lives_of h)) (life_begun (h ++ e ∷ []) (opening_by e.call e.reply) [])
+    ∙ ap (λ (ls : List PastLife). ls ++ map (passing p) (life_begun (h ++ e ∷ []) (opening_by e.call e.reply) []))
+    (passing-with p e (lives_of h))
+    ∙ ap (λ (ls : List PastLife). map (with_entry e) (lives_in p h) ++ ls)
+    (passing-begun p (h ++ e ∷ []) (opening_by e.call e.reply) (omega (arith, few, length_push h e)))

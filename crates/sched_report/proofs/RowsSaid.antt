@@ -33,7 +33,7 @@ requests = entry 2 (Ask 0 17 (Bytes 100) 800) Taken ∷ entry 3 (Ask 0 17 (Bytes
     ∷ entry 4 (Build 800) (Built granted) ∷ entry 5 (Ask 0 17 (Bytes 70) 860) Taken ∷ []
 
 abbrev life : Bool → PastLife
-life ended = record { sid = 17; first = BestEffort 3 0 0 0 0 0; upto = []; since = requests; ended = ended }
+life ended = record { sid = 17; first = BestEffort 3 0 0 0 0 0; upto = []; since = requests; ended = ended; passed = 0 }
 
 -- each delay is up to the end of the grant
 two_are_served : delays_in base (life false) ≡ 56 ∷ 46 ∷ []
@@ -70,6 +70,7 @@ voice = record {
   upto = [];
   since = entry 2 (Build 760) (Built twice) ∷ entry 3 (Build 800) (Built twice) ∷ [];
   ended = false;
+  passed = 0;
 }
 
 four_grants_are_128_bytes : granted_in base voice ≡ 128
@@ -118,6 +119,7 @@ asked_once more = record {
   upto = [];
   since = entry 2 (Ask 0 17 (Bytes 1000) 801) Taken ∷ entry 3 (Build 800) (Built part) ∷ more;
   ended = false;
+  passed = 0;
 }
 
 -- a request of 200 bytes supersedes it

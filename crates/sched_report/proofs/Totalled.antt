@@ -47,7 +47,8 @@ same_totals a b frames from to skips replaces calls slots opens =
     ∙ ap (λ n. totals_with b.frames b.from b.to b.skips b.replaces b.calls n a.opens) slots
     ∙ ap (λ n. totals_with b.frames b.from b.to b.skips b.replaces b.calls b.slots n) opens
 
-module _ (c : Config) (h : List Entry) (e : Entry) (t : Totals) (calls : Calls) (replaces : ℕ) (are : AreTotals c h t)
+module _ (c : Config) (before h : List Entry) (e : Entry) (t : Totals) (calls : Calls) (replaces : ℕ)
+    (are : AreTotals c before h t)
     (called : calls ≡ calls_of (h ++ e ∷ []))
     (replaced : replaces ≡ t.replaces + (if is_replacement e.call e.reply then 1 else 0)) where
   -- the totals with the call of the entry
@@ -71,8 +72,8 @@ module _ (c : Config) (h : List Entry) (e : Entry) (t : Totals) (calls : Calls) 
 
   -- a MAP more is a frame more
   pub totals-built : (m : FrameMap) (s : Slots) → e.reply ≡ replies.Built m
-      → s ≡ slots_in c (record { before = h; built = m })
-      → with_frame c.frame counted_call m s ≡ totals_of c (h ++ e ∷ [])
+      → s ≡ slots_in c (record { before = before ++ h; built = m })
+      → with_frame c.frame counted_call m s ≡ totals_of c before (h ++ e ∷ [])
   totals-built m s is slots =
       let maps : maps_of (h ++ e ∷ []) ≡ maps_of h ++ m ∷ [] = maps_of-built h e m is in
       same_totals _ _
@@ -86,14 +87,14 @@ module _ (c : Config) (h : List Entry) (e : Entry) (t : Totals) (calls : Calls) 
       replaces-push
       called
       (ap (λ u. sum_of t.slots u) slots
-      ∙ ap (λ u. sum_of u.slots (slots_in c (record { before = h; built = m }))) are.value
-      ∙ sym (slots_of-built c h e m is))
+      ∙ ap (λ u. sum_of u.slots (slots_in c (record { before = before ++ h; built = m }))) are.value
+      ∙ sym (slots_of-built c before h e m is))
       (ap (λ t. t.opens) are.value)
 
   -- without a MAP there is no frame more
   pub totals-unbuilt : (skips : ℕ) → map_by e.reply ≡ None
       → skips ≡ t.skips + (if is_skip_answer e.reply then 1 else 0)
-      → record counted_call { skips = skips } ≡ totals_of c (h ++ e ∷ [])
+      → record counted_call { skips = skips } ≡ totals_of c before (h ++ e ∷ [])
   totals-unbuilt skips none more =
       let maps : maps_of (h ++ e ∷ []) ≡ maps_of h = maps_of-unbuilt h e none in
       same_totals _ _
@@ -103,15 +104,15 @@ module _ (c : Config) (h : List Entry) (e : Entry) (t : Totals) (calls : Calls) 
       (more ∙ ap (λ n. n + (if is_skip_answer e.reply then 1 else 0)) (ap (λ t. t.skips) are.value) ∙ sym skips-push)
       replaces-push
       called
-      (ap (λ t. t.slots) are.value ∙ sym (slots_of-unbuilt c h e none))
+      (ap (λ t. t.slots) are.value ∙ sym (slots_of-unbuilt c before h e none))
       (ap (λ t. t.opens) are.value)
 
   -- what is counted with a MAP more
   pub AreTotals-built : (m : FrameMap) (new : Totals) → e.reply ≡ replies.Built m
-      → new ≡ with_frame c.frame counted_call m (slots_in c (record { before = h; built = m }))
-      → all_slots new.slots ≤ all_slots t.slots + 2 ^ 14 → AreTotals c (h ++ e ∷ []) new
+      → new ≡ with_frame c.frame counted_call m (slots_in c (record { before = before ++ h; built = m }))
+      → all_slots new.slots ≤ all_slots t.slots + 2 ^ 14 → AreTotals c before (h ++ e ∷ []) new
   AreTotals-built m new is counted more = record {
-    value = counted ∙ totals-built m (slots_in c (record { before = h; built = m })) is refl;
+    value = counted ∙ totals-built m (slots_in c (record { before = before ++ h; built = m })) is refl;
     few = omega (arith, ap (λ (t : Totals). t.frames) counted, are.few, length_push h e);
     bounded = omega (arith, more, are.bounded, length_push h e);
   }
@@ -119,7 +120,7 @@ module _ (c : Config) (h : List Entry) (e : Entry) (t : Totals) (calls : Calls) 
   -- and without one
   pub AreTotals-unbuilt : (skips : ℕ) → map_by e.reply ≡ None
       → skips ≡ t.skips + (if is_skip_answer e.reply then 1 else 0)
-      → AreTotals c (h ++ e ∷ []) (record counted_call { skips = skips })
+      → AreTotals c before (h ++ e ∷ []) (record counted_call { skips = skips })
   AreTotals-unbuilt skips none more = record {
     value = totals-unbuilt skips none more;
     few = omega (arith, are.few, length_push h e);

@@ -1,12 +1,11 @@
 -- How often a flow waited under its minimum reserved rate, with one entry more.
-use Rattle.std.proofs.Common.{◌≡◌, ℕ, ◌+◌, ◌*◌, ◌<◌, ◌≤◌, ◌==◌, Bool, true, false, List, [], ◌∷◌, ◌++◌, filter, length, map}
-use Rattle.std.proofs.Common.{get_or, Option, None, Some, refl, sym, ap, ◌∙◌, subst, append_assoc, inl, inr}
+use Rattle.std.proofs.Common.{◌≡◌, ℕ, ◌+◌, ◌≤◌, ◌==◌, Bool, true, false, List, [], ◌∷◌, ◌++◌, filter, length, take, drop}
+use Rattle.std.proofs.Common.{get_or, refl, ap, ◌∙◌, append_assoc}
 use Rattle.std.proofs.Common.{if◌then◌else◌, arith}
 use Rattle.std.specs.Prelude.{is_some}
-use Rattle.std.proofs.lemmas.List.{append-nil, length-append}
+use Rattle.std.proofs.lemmas.List.{append-nil, length-append, take-append-drop, take-append-le, drop-append-le}
 use Rattle.std.proofs.lemmas.List.Elements.{filter-append}
 use Rattle.minislots.specs.declared.config.Config.{Config}
-use Rattle.minislots.specs.Config.{IsLawful}
 use Rattle.sched_calls.specs.declared.reply.Reply.{Reply}
 use Rattle.sched_calls.specs.declared.reply.Reply.TheVariants as replies
 use Rattle.sched_calls.specs.declared.call.Call.{Call}
@@ -15,8 +14,7 @@ use Rattle.sched_calls.specs.declared.reply.Entry.{Entry}
 use Rattle.sched_history.specs.Facts.{under_by}
 use Rattle.sched_history.specs.Life.{turn_by}
 use Rattle.sched_report.specs.declared.life.LifeTally.{LifeTally}
-use Rattle.sched_report.specs.Lives.{PastLife, is_turn, lives_of, with_entry}
-use Rattle.sched_report.specs.Told.{IsLifeOf}
+use Rattle.sched_report.specs.Lives.{PastLife, is_turn, with_entry}
 use Rattle.sched_report.specs.UnderIn.{times, under_since, under_in}
 use Rattle.sched_report.specs.Under.{counted_by, HasCounted}
 use Rattle.sched_report.proofs.LegalLives.{IsLifeIn}
@@ -97,6 +95,17 @@ under-with c h e life in_h = by-end life.ended (is_turn life.sid e) refl refl
         ≡ under_in c life + (if life.ended then 0 else times life.sid (under_by c h e.reply))
     by-end true turns ended turn = rw ended (omega arith)
     by-end false true ended turn = rw (ended, turn, turn-none c h life.sid e turn) (omega arith)
-    by-end false false ended turn = rw (ended, turn)
-        (under_since-push c life.sid life.upto life.since e
-        ∙ ap (λ (all : List Entry). under_in c life + times life.sid (under_by c all e.reply)) (in_h.whole ended))
+    by-end false false ended turn =
+        let within : life.passed ≤ length life.since = in_h.passed ended in
+        let front : List Entry = take life.passed life.since in
+        let rest : List Entry = drop life.passed life.since in
+        let whole : (life.upto ++ front) ++ rest ≡ h =
+        append_assoc life.upto front rest
+        ∙ ap (λ (es : List Entry). life.upto ++ es) (take-append-drop life.passed life.since)
+        ∙ in_h.whole ended in
+        rw (ended, turn)
+        (ap (λ (es : List Entry). under_since c life.sid (life.upto ++ es)
+        (drop life.passed (life.since ++ e ∷ []))) (take-append-le life.passed life.since (e ∷ []) within)
+        ∙ ap (under_since c life.sid (life.upto ++ front)) (drop-append-le life.passed life.since (e ∷ []) within)
+        ∙ under_since-push c life.sid (life.upto ++ front) rest e
+        ∙ ap (λ (all : List Entry). under_in c life + times life.sid (under_by c all e.reply)) whole)

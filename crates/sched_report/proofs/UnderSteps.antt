@@ -21,13 +21,13 @@ use Rattle.sched_history.specs.Time.{next_after}
 use Rattle.sched_history.proofs.steps.LegalBounds.{flows_of-few}
 use Rattle.sched_report.specs.declared.life.LifeTally.{LifeTally}
 use Rattle.sched_report.specs.declared.lives.Opening.{Opening}
-use Rattle.sched_report.specs.Lives.{PastLife, opening_by, life_begun, lives_of, with_entry}
+use Rattle.sched_report.specs.Lives.{PastLife, opening_by, life_begun, lives_in, with_entry}
 use Rattle.sched_report.specs.Told.{IsLifeOf}
 use Rattle.sched_report.specs.UnderIn.{times, under_in}
 use Rattle.sched_report.specs.Under.{counted_by, HasCounted, AreUnder, MayCountUnder}
 use Rattle.sched_report.proofs.LifeTold.{some_end}
-use Rattle.sched_report.proofs.LivesEach.{life_in, no_life}
-use Rattle.sched_report.proofs.PastLives.{lives_of-push}
+use Rattle.sched_report.proofs.LivesEach.{life_in}
+use Rattle.sched_report.proofs.PastLives.{lives_in-push}
 use Rattle.sched_report.proofs.UnderLaws.{counted-most, under-with}
 
 -- where a life begins, or none
@@ -72,8 +72,8 @@ under_by-few c lawful h legal (replies.Built m) = by-settling (settles_after c h
     )
 under_by-few c lawful h legal reply = omega arith
 
-module _ (c : Config) (h : List Entry) (ts : List LifeTally) (old sids : List ℕ) (e : Entry)
-    (may : MayCountUnder c h ts old sids e) (new : List ℕ) (long : length new ≡ length old)
+module _ (c : Config) (p : ℕ) (h : List Entry) (ts : List LifeTally) (old sids : List ℕ) (e : Entry)
+    (may : MayCountUnder c p h ts old sids e) (new : List ℕ) (long : length new ≡ length old)
     (counted : HasCounted sids ts old new) where
   -- so often the entry counts a life, as it is told
   counts : (t : LifeTally) (life : PastLife) → IsLifeOf c t life
@@ -86,9 +86,9 @@ module _ (c : Config) (h : List Entry) (ts : List LifeTally) (old sids : List �
 
   -- each life that there was is counted with the entry
   each-more : (k n : ℕ) (life : PastLife) → k < length new
-      → get_or new k n ≡ under_in c (get_or (map (with_entry e) (lives_of h)) k life)
+      → get_or new k n ≡ under_in c (get_or (map (with_entry e) (lives_in p h)) k life)
   each-more k n life below =
-      let ls : List PastLife = lives_of h in
+      let ls : List PastLife = lives_in p h in
       let in_old : k < length old = omega (arith, below, long) in
       let in_lives : k < length ls = omega (arith, in_old, may.counts.long) in
       let in_told : k < length ts = omega (arith, in_lives, may.lives.long) in
@@ -97,7 +97,7 @@ module _ (c : Config) (h : List Entry) (ts : List LifeTally) (old sids : List �
       counted k n t in_told
       ∙ ap (λ (m : ℕ). m + counted_by sids (get_or ts k t)) (may.counts.each k n life in_old)
       ∙ ap (λ (m : ℕ). under_in c l + m) (counts (get_or ts k t) l (may.lives.each k t life in_told))
-      ∙ sym (under-with c h e l (life_in c h may.legal k life in_lives))
+      ∙ sym (under-with c h e l (life_in c p h may.legal may.passed_few k life in_lives))
       ∙ ap (under_in c) (sym (get_or-map (with_entry e) ls k life life in_lives))
 
   -- and few times
@@ -117,14 +117,14 @@ module _ (c : Config) (h : List Entry) (ts : List LifeTally) (old sids : List �
       )
 
   -- where no life begins
-  pub AreUnder-more : opening_by e.call e.reply ≡ None → AreUnder c (h ++ e ∷ []) new
+  pub AreUnder-more : opening_by e.call e.reply ≡ None → AreUnder c p (h ++ e ∷ []) new
   AreUnder-more none =
-      let same : lives_of (h ++ e ∷ []) ≡ map (with_entry e) (lives_of h) =
-      lives_of-push h e
-      ∙ ap (λ (o : Option Opening). map (with_entry e) (lives_of h) ++ life_begun (h ++ e ∷ []) o []) none
-      ∙ append-nil (map (with_entry e) (lives_of h)) in
+      let same : lives_in p (h ++ e ∷ []) ≡ map (with_entry e) (lives_in p h) =
+      lives_in-push p h e may.passed_few
+      ∙ ap (λ (o : Option Opening). map (with_entry e) (lives_in p h) ++ life_begun (h ++ e ∷ []) o []) none
+      ∙ append-nil (map (with_entry e) (lives_in p h)) in
       record {
-        long = omega (arith, long, may.counts.long, ap length same, length-map (lives_of h) (with_entry e));
+        long = omega (arith, long, may.counts.long, ap length same, length-map (lives_in p h) (with_entry e));
         each = λ k n life below.
             subst (λ (ls : List PastLife). get_or new k n ≡ under_in c (get_or ls k life)) (sym same)
             (each-more k n life below);
@@ -132,15 +132,15 @@ module _ (c : Config) (h : List Entry) (ts : List LifeTally) (old sids : List �
       }
 
   -- where one begins
-  pub AreUnder-push : (o : Opening) → opening_by e.call e.reply ≡ Some o → AreUnder c (h ++ e ∷ []) (new ++ 0 ∷ [])
+  pub AreUnder-push : (o : Opening) → opening_by e.call e.reply ≡ Some o → AreUnder c p (h ++ e ∷ []) (new ++ 0 ∷ [])
   AreUnder-push o some =
-      let more : List PastLife = map (with_entry e) (lives_of h) in
-      let last : PastLife = record { sid = o.sid; first = o.spec; upto = h ++ e ∷ []; since = []; ended = false } in
-      let same : lives_of (h ++ e ∷ []) ≡ more ++ last ∷ [] =
-      lives_of-push h e
-      ∙ ap (λ (o : Option Opening). map (with_entry e) (lives_of h) ++ life_begun (h ++ e ∷ []) o []) some in
+      let more : List PastLife = map (with_entry e) (lives_in p h) in
+      let last : PastLife = record { sid = o.sid; first = o.spec; upto = h ++ e ∷ []; since = []; ended = false; passed = 0 } in
+      let same : lives_in p (h ++ e ∷ []) ≡ more ++ last ∷ [] =
+      lives_in-push p h e may.passed_few
+      ∙ ap (λ (o : Option Opening). map (with_entry e) (lives_in p h) ++ life_begun (h ++ e ∷ []) o []) some in
       let as-long : length new ≡ length more =
-      omega (arith, long, may.counts.long, length-map (lives_of h) (with_entry e)) in
+      omega (arith, long, may.counts.long, length-map (lives_in p h) (with_entry e)) in
       record {
         long = omega (arith, as-long, ap length same, length_push new 0, length_push more last);
         each = λ k n life below.

@@ -13,7 +13,7 @@ use Rattle.sched_report.specs.Told.{MayGrantAll}
 pub record HasMore (c : Config) (grants : List Grant) (most unsolicited : ℕ) (old new : LifeTally) : Type 0 where
   pub sid : new.sid ≡ old.sid
   pub spec : new.spec ≡ old.spec
-  pub from : new.from ≡ old.from
+  pub beginning : new.beginning ≡ old.beginning
   pub to : new.to ≡ old.to
   pub ended : (old.to ≡ None → ⊥) → new ≡ old
   pub service : old.to ≡ None → (claims : List Claim) (bytes : ℕ) (before : List Grant)

@@ -18,4 +18,5 @@ pub mod Live
 pub mod Granted
 pub mod ToldLives
 pub mod Under
+pub mod Window
 pub mod Reported

@@ -1,5 +1,5 @@
 -- The lives of flows in a history, in the order of their admissions.
-use Rattle.std.specs.Prelude.{ℕ, Bool, true, List, [], ◌∷◌, ◌++◌}
+use Rattle.std.specs.Prelude.{ℕ, ◌-◌, nat_lt, not, Bool, true, List, [], ◌∷◌, ◌++◌, length, map}
 use Rattle.std.specs.Prelude.{Option, None, Some, is_some, option_map, if◌then◌else◌}
 use Rattle.std.specs.List.{list_any}
 use Rattle.std.specs.Option.{option_map_or}
@@ -14,13 +14,15 @@ use Rattle.sched_history.specs.Life.{turn_of, change_by}
 use Rattle.sched_report.specs.declared.lives.Opening.{Opening}
 
 -- A life of a flow: its SID, the parameters with which it was admitted, the entries up to its admission, those after it
--- up to its end, and whether it ended
+-- up to its end, and whether it ended; and how many entries of the history behind its admission, also behind its end, come
+-- before what is told
 pub record PastLife : Type 0 where
   pub sid : ℕ
   pub first : FlowSpec
   pub upto : List Entry
   pub since : List Entry
   pub ended : Bool
+  pub passed : ℕ
 
 -- the parameters that an accepted change of this SID gives
 abbrev pub new_spec : ℕ → Call → Reply → Option FlowSpec
@@ -58,6 +60,7 @@ life_begun upto (Some o) es = record {
   upto = upto;
   since = until (is_turn o.sid) es;
   ended = list_any (is_turn o.sid) es;
+  passed = 0;
 } ∷ []
 
 -- the lives that begin in entries which stand behind others
@@ -69,6 +72,18 @@ lives_after before (e ∷ es) =
 -- the lives of a history, in the order of their admissions
 abbrev pub lives_of : List Entry → List PastLife
 lives_of h = lives_after [] h
+
+-- a life where so many entries of its history came before what is told
+abbrev pub passing : ℕ → PastLife → PastLife
+passing passed life = record life { passed = passed - length life.upto }
+
+-- the lives of a history where so many of its entries came before what is told, in the order of their admissions
+abbrev pub lives_in : ℕ → List Entry → List PastLife
+lives_in passed h = map (passing passed) (lives_of h)
+
+-- whether a life is told of: not where it ended before what is told
+abbrev pub is_told : PastLife → Bool
+is_told life = not (nat_lt (length life.since) life.passed)
 
 -- a life with one entry more behind the history
 abbrev pub with_entry : Entry → PastLife → PastLife

@@ -1,5 +1,5 @@
 -- The requests of a flow in the entries of its life.
-use Rattle.std.specs.Prelude.{ℕ, ◌==◌, ◌&&◌, nat_lt, Bool, false, List, [], ◌∷◌, ◌++◌}
+use Rattle.std.specs.Prelude.{ℕ, ◌==◌, ◌&&◌, nat_lt, Bool, false, List, [], ◌∷◌, ◌++◌, take, drop}
 use Rattle.std.specs.Prelude.{Option, None, Some, if◌then◌else◌}
 use Rattle.std.specs.List.{list_any}
 use Rattle.minislots.specs.declared.config.Config.{Config}
@@ -54,6 +54,6 @@ claims_after c sid before [] = []
 claims_after c sid before (e ∷ es) =
     claim_made c sid (before ++ e ∷ []) (request_by c sid e.call e.reply) es ++ claims_after c sid (before ++ e ∷ []) es
 
--- the requests of this SID in the entries of a life, in order
-abbrev pub claims_in : Config → ℕ → List Entry → List Claim
-claims_in c sid es = claims_after c sid [] es
+-- the requests of this SID in the entries of a life, in order, where so many of the entries came before what is told
+abbrev pub claims_in : Config → ℕ → ℕ → List Entry → List Claim
+claims_in c sid passed es = claims_after c sid (take passed es) (drop passed es)

@@ -1,5 +1,6 @@
 -- What is said of a life: its requests that wait, were dropped or were replaced, and what it was granted.
-use Rattle.std.specs.Prelude.{ℕ, ◌+◌, ◌-◌, ◌==◌, ◌&&◌, Bool, true, List, [], ◌∷◌, ◌++◌, sum_by}
+use Rattle.std.specs.Prelude.{ℕ, ◌+◌, ◌-◌, ◌==◌, ◌&&◌, Bool, true, List, [], ◌∷◌, ◌++◌, take, drop, sum_by}
+use Rattle.flow_book.specs.declared.flow.Grant.{Grant}
 use Rattle.std.specs.Prelude.{Option, None, Some, if◌then◌else◌}
 use Rattle.minislots.specs.declared.config.Config.{Config}
 use Rattle.map_drawing.specs.declared.allocation.Allocation.{Allocation}
@@ -22,7 +23,7 @@ use Rattle.sched_report.specs.Uses.{use_of, is_unsolicited}
 
 -- the requests of a life
 abbrev pub claims_of : Config → PastLife → List Claim
-claims_of c life = claims_in c life.sid life.since
+claims_of c life = claims_in c life.sid life.passed life.since
 
 -- the delays of those that were served
 abbrev pub delays_in : Config → PastLife → List ℕ
@@ -43,6 +44,22 @@ waiting_in c life = if life.ended then 0 else unserved_in c life
 -- and were dropped where it ended
 abbrev pub dropped_in : Config → PastLife → ℕ
 dropped_in c life = if life.ended then unserved_in c life else 0
+
+-- the bytes that its data grants had before what is told
+abbrev pub granted_before : PastLife → ℕ
+granted_before life = bytes_of (grants_since life.sid (take life.passed life.since))
+
+-- the bytes that were outstanding then
+abbrev pub carried_in : Config → PastLife → ℕ
+carried_in c life = asked_in c life.sid (take life.passed life.since) - granted_before life
+
+-- the data grants since
+abbrev pub grants_in : PastLife → List Grant
+grants_in life = grants_since life.sid (drop life.passed life.since)
+
+-- the bytes that were outstanding then and those asked since, but for those, of both, that a request superseded
+abbrev pub asked_since : Config → PastLife → ℕ
+asked_since c life = asked_in c life.sid life.since - granted_before life
 
 -- the bytes that were asked and not granted
 abbrev pub outstanding_in : Config → PastLife → ℕ
@@ -79,7 +96,8 @@ unsolicited_after c sid first upto before (e ∷ es) =
 
 -- the bytes of the unsolicited grants of a life
 abbrev pub unsolicited_in : Config → PastLife → ℕ
-unsolicited_in c life = unsolicited_after c life.sid life.first life.upto [] life.since
+unsolicited_in c life =
+    unsolicited_after c life.sid life.first life.upto (take life.passed life.since) (drop life.passed life.since)
 
 -- the bytes of the unsolicited grants of a flow, or else of its data grants
 abbrev pub granted_under : FlowSpec → ℕ → ℕ → ℕ
@@ -89,7 +107,7 @@ granted_under (flows.BestEffort priority rate burst peak reserved reserved-burst
 
 -- the bytes that a life was granted
 abbrev pub granted_in : Config → PastLife → ℕ
-granted_in c life = granted_under (spec_of life) (unsolicited_in c life) (bytes_of (grants_since life.sid life.since))
+granted_in c life = granted_under (spec_of life) (unsolicited_in c life) (bytes_of (grants_in life))
 
 -- the priority of a best effort flow
 abbrev pub priority_of : FlowSpec → Option ℕ

@@ -61,9 +61,9 @@ pub record IsServiceOf (c : Config) (s : Service) (claims : List Claim) (bytes :
   pub steps : AreStepsOf s.spread.steps.items (delays_of c claims)
   pub room : vec_len s.spread.steps + deque_len s.waiting ≤ vec_capacity s.spread.steps
 
--- The numbers are those of a flow of this SID with these entries of its life
-abbrev pub IsServiceAfter : Config → Service → ℕ → List Entry → Type 0
-IsServiceAfter c s sid es = IsServiceOf c s (claims_in c sid es) (asked_in c sid es) (grants_since sid es)
+-- The numbers are those of a flow of this SID with these entries of its life, of which so many came before what is told
+abbrev pub IsServiceAfter : Config → Service → ℕ → ℕ → List Entry → Type 0
+IsServiceAfter c s sid passed es = IsServiceOf c s (claims_in c sid passed es) (asked_in c sid es) (grants_since sid es)
 
 -- there is room for one request more, and for its step
 abbrev pub HasRoom : Service → Type 0

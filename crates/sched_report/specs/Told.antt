@@ -1,5 +1,5 @@
 -- What is told of one life of a flow.
-use Rattle.std.specs.Prelude.{◌≡◌, ℕ, ◌*◌, ◌<◌, ◌≤◌, ◌^◌, false, List, [], ◌∷◌, ◌++◌, length, None, Some}
+use Rattle.std.specs.Prelude.{◌≡◌, ℕ, ◌*◌, ◌<◌, ◌≤◌, ◌^◌, false, List, [], ◌∷◌, ◌++◌, length, take, None, Some}
 use Rattle.std.specs.Prelude.{if◌then◌else◌}
 use Rattle.minislots.specs.declared.config.Config.{Config}
 use Rattle.minislots.specs.Config.{IsLawful}
@@ -18,17 +18,20 @@ use Rattle.sched_report.specs.declared.service.Service.{Service}
 use Rattle.sched_report.specs.declared.life.LifeTally.{LifeTally}
 use Rattle.sched_report.specs.Delays.{Claim}
 use Rattle.sched_report.specs.Served.{IsServiceOf, IsServiceAfter, HasRoom}
-use Rattle.sched_report.specs.Lives.{PastLife, is_turn, spec_of}
-use Rattle.sched_report.specs.Said.{unsolicited_in}
+use Rattle.sched_report.specs.Lives.{PastLife, is_turn, is_told, spec_of}
+use Rattle.sched_report.specs.Said.{unsolicited_in, granted_before, carried_in}
 
--- What is told is of this life: it lived from the next frame at its admission to the next frame at its end, and asked
--- and was granted what the entries in between have
+-- What is told is of this life: it lived from the next frame at its admission, or where what is told begins, to the next
+-- frame at its end, and asked and was granted what the entries in between have
 pub record IsLifeOf (c : Config) (t : LifeTally) (life : PastLife) : Type 0 where
   pub sid : t.sid ≡ life.sid
   pub spec : t.spec ≡ spec_of life
-  pub from : t.from ≡ next_after c life.upto
+  pub from : t.beginning.from ≡ next_after c (life.upto ++ take life.passed life.since)
   pub to : t.to ≡ (if life.ended then Some (next_after c (life.upto ++ life.since)) else None)
-  pub service : IsServiceAfter c t.service life.sid life.since
+  pub service : IsServiceAfter c t.service life.sid life.passed life.since
+  pub before : t.beginning.granted ≡ granted_before life
+  pub carried : t.beginning.carried ≡ carried_in c life
+  pub told : t.beginning.is_live ≡ is_told life
   pub few : length life.since ≤ MAX_WHOLE_HISTORY
   pub unsolicited : t.unsolicited ≡ unsolicited_in c life
   pub bounded : t.unsolicited ≤ 240 * 2 ^ 32 * length life.since
@@ -41,6 +44,7 @@ HasRoomFor t = HasRoom t.service
 pub record MayNote (c : Config) (life : PastLife) (slot : ℕ) (e : Entry) : Type 0 where
   pub lawful : IsLawful c
   pub few : length life.since < MAX_WHOLE_HISTORY
+  pub passed : life.ended ≡ false → life.passed ≤ length life.since
   pub next : life.ended ≡ false → slot ≡ next_after c (life.upto ++ life.since)
   pub within : life.ended ≡ false → is_turn life.sid e ≡ false
       → (bytes_of (grants_since life.sid (life.since ++ e ∷ [])) ≤ asked_in c life.sid (life.since ++ e ∷ []))

@@ -1,5 +1,5 @@
 -- What is told of all lives of a history.
-use Rattle.std.specs.Prelude.{◌≡◌, ℕ, ◌<◌, ◌^◌, ◌⊎◌, List, ◌++◌, length, slice_index_or}
+use Rattle.std.specs.Prelude.{◌≡◌, ℕ, ◌<◌, ◌≤◌, ◌^◌, ◌⊎◌, List, ◌++◌, length, take, slice_index_or}
 use Rattle.minislots.specs.declared.config.Config.{Config}
 use Rattle.minislots.specs.Config.{IsLawful}
 use Rattle.map_build.specs.declared.met.Met.{Met}
@@ -9,7 +9,6 @@ use Rattle.sched_calls.specs.declared.reply.Reply.{Reply}
 use Rattle.sched_calls.specs.declared.reply.Reply.TheVariants.{Built}
 use Rattle.sched_calls.specs.declared.reply.Entry.{Entry}
 use Rattle.sched_calls.specs.declared.reply.TheConstants.{MAX_WHOLE_HISTORY}
-use Rattle.sched_history.specs.Life.{asked_in, grants_since}
 use Rattle.sched_history.specs.Facts.{IsOrderly}
 use Rattle.sched_history.specs.History.{IsStep, IsLegal}
 use Rattle.sched_history.specs.Machine.{MayLackMemory}
@@ -18,9 +17,10 @@ use Rattle.sched_history.specs.Time.{next_after}
 use Rattle.sched_report.specs.declared.life.LifeTally.{LifeTally}
 use Rattle.sched_report.specs.declared.life.LifeNumbers.{LifeNumbers}
 use Rattle.sched_report.specs.Delays.{AreSums}
-use Rattle.sched_report.specs.Lives.{PastLife, spec_of, lives_of, IsRequest, IsOpening}
+use Rattle.sched_report.specs.Lives.{PastLife, spec_of, lives_in, IsRequest, IsOpening}
 use Rattle.sched_report.specs.Spread.{TellsPercentile}
-use Rattle.sched_report.specs.Said.{claims_of, delays_in, priority_of, granted_in, outstanding_in}
+use Rattle.sched_report.specs.Said.{claims_of, delays_in, priority_of, granted_in, carried_in, asked_since, grants_in}
+use Rattle.sched_report.specs.Said.{outstanding_in}
 use Rattle.sched_report.specs.Said.{waiting_in, dropped_in}
 use Rattle.sched_report.specs.Told.{IsLifeOf, MayNote, Meets}
 use Rattle.sched_report.specs.UnderIn.{under_in}
@@ -52,29 +52,32 @@ AddsToReport call reply = IsRequest call reply ⊎ IsOpening call reply
 abbrev pub MayLackReportMemory : Config → List Entry → Entry → Type 0
 MayLackReportMemory c h e = MayLackMemory c h e.call ⊎ AddsToReport e.call e.reply
 
--- What is told is of the lives of this history, which is legal, and the entry may follow it, whose MAP meets these
--- opportunities then
-pub record MayFollow (c : Config) (h : List Entry) (ts : List LifeTally) (slot : ℕ) (met : List Met) (e : Entry) :
-    Type 0 where
+-- What is told is of the lives of this history, which is legal, behind so many of its entries, and the entry may follow
+-- it, whose MAP meets these opportunities then
+pub record MayFollow (c : Config) (passed : ℕ) (h : List Entry) (ts : List LifeTally) (slot : ℕ) (met : List Met)
+    (e : Entry) : Type 0 where
   pub lawful : IsLawful c
   pub legal : IsLegal c h
   pub step : IsStep c h e.call e.reply
   pub short : length h < MAX_WHOLE_HISTORY
   pub next : slot ≡ next_after c h
-  pub lives : AreLives c ts (lives_of h)
+  pub lives : AreLives c ts (lives_in passed h)
   pub meets : met ≡ met_after c h e.reply
+  pub passed_few : passed ≤ length h
 
--- These are the numbers of a life: where the next frame started at its admission, and where it started at its end or
--- starts now, whether it ended, what it asked and was granted, its requests that were not served, the delays that 50
--- and 99 in a hundred of those that were served do not exceed, and how often it waited under its reservation
+-- These are the numbers of a life: where the next frame started at its admission or where what is told begins, and where
+-- it started at its end or starts now, whether it ended, what was outstanding when that began, what it asked and was
+-- granted, its requests that were not served, the delays that 50 and 99 in a hundred of those that were served do not
+-- exceed, and how often it waited under its reservation
 pub record AreLifeNumbers (c : Config) (n : LifeNumbers) (life : PastLife) : Type 0 where
   pub sid : n.sid ≡ life.sid
   pub spec : n.spec ≡ spec_of life
-  pub from : n.from ≡ next_after c life.upto
+  pub from : n.from ≡ next_after c (life.upto ++ take life.passed life.since)
   pub to : n.to ≡ next_after c (life.upto ++ life.since)
   pub ended : n.ended ≡ life.ended
   pub priority : n.priority ≡ priority_of (spec_of life)
-  pub sums : AreSums c n.sums (claims_of c life) (asked_in c life.sid life.since) (grants_since life.sid life.since)
+  pub carried : n.carried ≡ carried_in c life
+  pub sums : AreSums c n.sums (claims_of c life) (asked_since c life) (grants_in life)
   pub granted : n.granted ≡ granted_in c life
   pub outstanding : n.outstanding ≡ outstanding_in c life
   pub waiting : n.waiting ≡ waiting_in c life

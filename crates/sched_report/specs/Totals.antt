@@ -1,4 +1,4 @@
--- The numbers of a whole history.
+-- The numbers of entries of a history.
 use Rattle.std.specs.Prelude.{◌≡◌, ℕ, ◌+◌, ◌*◌, ◌^◌, ◌≤◌, ◌==◌, ◌&&◌, Bool, true, false, List, [], ◌∷◌}
 use Rattle.std.specs.Prelude.{length, count_by, slice_get, Option, None, Some, option_map}
 use Rattle.std.specs.Option.{option_or}
@@ -8,6 +8,7 @@ use Rattle.sched_calls.specs.declared.call.Call.{Call}
 use Rattle.sched_calls.specs.declared.reply.Reply.{Reply}
 use Rattle.sched_calls.specs.declared.reply.Reply.TheVariants.{Skipped, Taken}
 use Rattle.sched_history.specs.Facts.{maps_of}
+use Rattle.frame_picture.specs.Frames.{frames_after}
 use Rattle.sched_calls.specs.declared.frame_map.FrameMap.{FrameMap}
 use Rattle.sched_report.specs.declared.slots.Slots.{Slots}
 use Rattle.sched_report.specs.declared.totals.Totals.{Totals}
@@ -34,18 +35,18 @@ is_taken reply = false
 abbrev pub is_replacement : Call → Reply → Bool
 is_replacement call reply = is_replace call && is_taken reply
 
--- the numbers of a history: its frames, where the first starts and the last ends, how often frames were left out and
--- requests were superseded, the calls by their kind, the minislots of the frames by their use, and whether idles are
--- open to requests
-abbrev pub totals_of : Config → List Entry → Totals
-totals_of c h = record {
-  frames = length (maps_of h);
-  from = option_map (λ m. m.start) (slice_get (maps_of h) 0);
-  to = option_map (λ m. m.start + c.frame) (last_of (maps_of h));
-  skips = count_by (λ e. is_skip_answer e.reply) h;
-  replaces = count_by (λ e. is_replacement e.call e.reply) h;
-  calls = calls_of h;
-  slots = slots_of c h;
+-- the numbers of entries that stand behind others: their frames, where the first starts and the last ends, how often
+-- frames were left out and requests were superseded, the calls by their kind, the minislots of the frames by their use,
+-- and whether idles are open to requests
+abbrev pub totals_of : Config → List Entry → List Entry → Totals
+totals_of c before es = record {
+  frames = length (maps_of es);
+  from = option_map (λ m. m.start) (slice_get (maps_of es) 0);
+  to = option_map (λ m. m.start + c.frame) (last_of (maps_of es));
+  skips = count_by (λ e. is_skip_answer e.reply) es;
+  replaces = count_by (λ e. is_replacement e.call e.reply) es;
+  calls = calls_of es;
+  slots = slots_of c (frames_after before es);
   opens = c.open_idle == 1;
 }
 
@@ -58,8 +59,8 @@ with_frame frame t m s = record t {
   slots = sum_of t.slots s;
 }
 
--- The numbers are those of the history, and keep to bounds
-pub record AreTotals (c : Config) (h : List Entry) (t : Totals) : Type 0 where
-  pub value : t ≡ totals_of c h
-  pub few : t.frames ≤ length h
-  pub bounded : all_slots t.slots ≤ 2 ^ 14 * length h
+-- The numbers are those of entries that stand behind others, and keep to bounds
+pub record AreTotals (c : Config) (before es : List Entry) (t : Totals) : Type 0 where
+  pub value : t ≡ totals_of c before es
+  pub few : t.frames ≤ length es
+  pub bounded : all_slots t.slots ≤ 2 ^ 14 * length es

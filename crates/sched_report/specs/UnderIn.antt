@@ -1,5 +1,5 @@
 -- How often a flow waited under its minimum reserved rate where a MAP of its life starts.
-use Rattle.std.specs.Prelude.{ℕ, ◌+◌, ◌==◌, List, [], ◌∷◌, ◌++◌, filter, length}
+use Rattle.std.specs.Prelude.{ℕ, ◌+◌, ◌==◌, List, [], ◌∷◌, ◌++◌, take, drop, filter, length}
 use Rattle.minislots.specs.declared.config.Config.{Config}
 use Rattle.sched_calls.specs.declared.reply.Entry.{Entry}
 use Rattle.sched_history.specs.Facts.{under_by}
@@ -18,4 +18,5 @@ under_since c sid before (e ∷ es) =
 
 -- how many of a life
 abbrev pub under_in : Config → PastLife → ℕ
-under_in c life = under_since c life.sid life.upto life.since
+under_in c life =
+    under_since c life.sid (life.upto ++ take life.passed life.since) (drop life.passed life.since)

@@ -10,10 +10,9 @@ use Rattle.map_drawing.specs.Allocation.{frame_slots, allocations_of}
 use Rattle.map_build.specs.declared.met.Met.{Met}
 use Rattle.map_build.specs.Reading.{meets_at}
 use Rattle.sched_calls.specs.declared.reply.Reply.TheVariants.{Built}
-use Rattle.sched_calls.specs.declared.reply.Entry.{Entry}
 use Rattle.sched_history.specs.Reserves.{met_after}
 use Rattle.frame_picture.specs.OpenIdle.{is_open_idle}
-use Rattle.frame_picture.specs.Frames.{Frame, is_unsolicited_after, frames_of}
+use Rattle.frame_picture.specs.Frames.{Frame, is_unsolicited_after}
 use Rattle.sched_report.specs.declared.slots.Slots.{Slots}
 use Rattle.sched_report.specs.declared.slots.Use.{Use}
 use Rattle.sched_report.specs.declared.slots.Use.TheVariants.{Request, Poll, Unsolicited, Opportunity, Data, Open, Idle}
@@ -91,16 +90,16 @@ slots_in c f =
     slots_among (met_after c f.before (Built f.built)) (is_unsolicited_after f.before)
     (allocations_of f.built.wire.elements)
 
--- the minislots of all frames by their use
-abbrev pub slots_of : Config → List Entry → Slots
-slots_of c h = record {
-  data_grants = sum_by (λ f. (slots_in c f).data_grants) (frames_of h);
-  idle = sum_by (λ f. (slots_in c f).idle) (frames_of h);
-  open_idle = sum_by (λ f. (slots_in c f).open_idle) (frames_of h);
-  opportunity = sum_by (λ f. (slots_in c f).opportunity) (frames_of h);
-  poll = sum_by (λ f. (slots_in c f).poll) (frames_of h);
-  request = sum_by (λ f. (slots_in c f).request) (frames_of h);
-  unsolicited = sum_by (λ f. (slots_in c f).unsolicited) (frames_of h);
+-- the minislots of some frames by their use
+abbrev pub slots_of : Config → List Frame → Slots
+slots_of c fs = record {
+  data_grants = sum_by (λ f. (slots_in c f).data_grants) fs;
+  idle = sum_by (λ f. (slots_in c f).idle) fs;
+  open_idle = sum_by (λ f. (slots_in c f).open_idle) fs;
+  opportunity = sum_by (λ f. (slots_in c f).opportunity) fs;
+  poll = sum_by (λ f. (slots_in c f).poll) fs;
+  request = sum_by (λ f. (slots_in c f).request) fs;
+  unsolicited = sum_by (λ f. (slots_in c f).unsolicited) fs;
 }
 
 -- the minislots of all uses together

@@ -1,21 +1,22 @@
 //! One life of a flow: what it asked and was granted, and from when to when it lived.
 
 ghost use Rattle.std.specs.Prelude.{◌≡◌, ◌+◌, ◌*◌, ◌<◌, ◌≤◌, ◌^◌, ◌++◌, ◌∷◌, [], List, ℕ, map, false, not, ◌&&◌, ◌==◌};
-ghost use Rattle.std.specs.Prelude.{None, Some, is_some, IfSome, OnOk};
+ghost use Rattle.std.specs.Prelude.{None, Some, is_some, IfSome, OnOk, length, true};
 ghost use Rattle.std.specs.List.{cons_option};
 ghost use Rattle.std.specs.Option.{option_map_or};
 ghost use Rattle.minislots.specs.declared.config.Config.{Config};
 ghost use Rattle.flow_book.specs.declared.flow.Grant.{Grant as DataGrant};
 ghost use Rattle.sched_calls.specs.declared.reply.Entry.{Entry as Recorded};
-ghost use Rattle.sched_history.specs.Life.{asked_in, grant_by, grants_since};
+ghost use Rattle.sched_history.specs.Life.{grant_by};
 ghost use Rattle.sched_history.specs.Time.{next_after};
 ghost use Rattle.sched_report.specs.declared.service.Request.{Request as Asked};
 ghost use Rattle.sched_report.specs.Served.{IsServiceOf, with_grants};
 ghost use Rattle.sched_report.specs.Delays.{Claim, AreSums};
-ghost use Rattle.sched_report.specs.Lives.{PastLife, is_turn, new_spec, spec_of, with_entry};
+ghost use Rattle.sched_report.specs.Lives.{PastLife, is_told, is_turn, new_spec, spec_of, with_entry};
 ghost use Rattle.sched_report.specs.Requests.{request_by};
 ghost use Rattle.sched_report.specs.Ranks.{is_of_rank, is_chosen};
 ghost use Rattle.sched_report.specs.Said.{claims_of, delays_in, priority_of, granted_in, waiting_in, dropped_in};
+ghost use Rattle.sched_report.specs.Said.{asked_since, grants_in};
 ghost use Rattle.sched_report.specs.Named.{HasNoMap};
 ghost use Rattle.sched_report.specs.Granted.{HasMore};
 ghost use Rattle.sched_report.specs.Steps.{CountsUpto};
@@ -46,7 +47,7 @@ pub struct LifeNumbers {
     pub sid: u16,
     /// Its parameters: those of its last change, or else those with which it was admitted.
     pub spec: FlowSpec,
-    /// The minislot at which the next frame started when it was admitted.
+    /// The minislot at which the next frame started when it was admitted, or where what is told began.
     pub from: u64,
     /// The minislot at which the next frame started when it was removed, or starts now.
     pub to: u64,
@@ -54,7 +55,10 @@ pub struct LifeNumbers {
     pub ended: bool,
     /// The priority of a best effort flow.
     pub priority: Option<u8>,
-    /// Its requests, its data grants, and the delays of the requests that were served.
+    /// The bytes that were outstanding where what is told began: none where it was admitted since.
+    pub carried: u64,
+    /// Its requests, its data grants, and the delays of the requests that were served. Of the bytes that it asked those
+    /// carried are some.
     pub sums: Sums,
     /// The bytes that it was granted: those of its data grants, or of an unsolicited flow those of each unsolicited
     /// grant, as many as its parameters said when the MAP was built.
@@ -74,12 +78,22 @@ pub struct LifeNumbers {
     pub under: u64,
 }
 
+// Where what is told of a life begins: where the next frame started there, the bytes that its data grants had up to it,
+// those outstanding there, and whether it had not ended.
+#[derive(Clone, Copy)]
+pub(crate) struct Beginning {
+    from: u64,
+    granted: u64,
+    carried: u64,
+    is_live: bool,
+}
+
 // What is kept of one life of a flow.
 #[derive(Drop)]
 pub(crate) struct LifeTally {
     sid: u16,
     spec: FlowSpec,
-    from: u64,
+    beginning: Beginning,
     to: Option<u64>,
     service: Service,
     // The bytes of the unsolicited grants that it had.
@@ -91,17 +105,50 @@ impl LifeTally {
     pub(crate) fn begin(alloc: Global, sid: u16, spec: FlowSpec, from: u64) -> LifeTally
         ensures life { (c : Config) (upto : List Recorded) → from ≡ next_after c upto
             → IsLifeOf c result
-            (record { sid = sid; first = spec; upto = upto; since = []; ended = false }) }
+            (record { sid = sid; first = spec; upto = upto; since = []; ended = false; passed = 0 }) }
         ensures sid { result.sid ≡ sid }
     {
         LifeTally {
             sid,
             spec,
-            from,
+            beginning: Beginning {
+                from,
+                granted: 0,
+                carried: 0,
+                is_live: true,
+            },
             to: None,
             service: Service::new(alloc),
             unsolicited: 0,
         }
+    }
+
+    // What is told begins anew here, where the next frame starts there: nothing was asked or granted since.
+    pub(crate) fn renew(&mut self, next: u64)
+        requires { (c : Config) × (life : PastLife) × IsLifeOf c self.old life }
+        ensures life { (c : Config) (life : PastLife) (passed : ℕ) → IsLifeOf c self.old life
+            → (life.ended ≡ false → next ≡ next_after c (life.upto ++ life.since))
+            → (life.ended ≡ false → passed ≡ length life.since)
+            → (life.ended ≡ true → length life.since < passed)
+            → IsLifeOf c self.new (record life { passed = passed }) }
+        ensures sid { self.new.sid ≡ self.old.sid }
+        ensures to { self.new.to ≡ self.old.to }
+    {
+        let (asked, granted) = self.service.renew();
+        self.beginning = Beginning {
+            from: self.to.unwrap_or(next),
+            granted,
+            carried: asked - granted,
+            is_live: self.to.is_none(),
+        };
+        self.unsolicited = 0;
+    }
+
+    // Whether it lived where what is told began, or since.
+    pub(crate) fn is_told(&self) -> bool
+        ensures { (c : Config) (life : PastLife) → IsLifeOf c self.now life → result ≡ is_told life }
+    {
+        self.beginning.is_live
     }
 
     // Its numbers, where the next frame starts there, and so often it waited under its reservation.
@@ -118,10 +165,11 @@ impl LifeTally {
         LifeNumbers {
             sid: self.sid,
             spec: self.spec,
-            from: self.from,
+            from: self.beginning.from,
             to: self.to.unwrap_or(next),
             ended: self.to.is_some(),
             priority: priority_of(self.spec),
+            carried: self.beginning.carried,
             sums,
             granted: self.granted(),
             outstanding: sums.asked - sums.granted,
@@ -144,11 +192,16 @@ impl LifeTally {
     pub(crate) fn sums(&self) -> Sums
         requires { (c : Config) × (life : PastLife) × IsLifeOf c self.now life }
         ensures sums { (c : Config) (life : PastLife) → IsLifeOf c self.now life
-            → AreSums c result (claims_of c life)
-            (asked_in c life.sid life.since) (grants_since life.sid life.since) }
+            → AreSums c result (claims_of c life) (asked_since c life) (grants_in life) }
         ensures few { result.delays.served ≤ 2 ^ 44 }
+        ensures within { result.granted ≤ result.asked }
     {
-        self.service.sums()
+        let sums = self.service.sums();
+        Sums {
+            asked: sums.asked - self.beginning.granted,
+            granted: sums.granted - self.beginning.granted,
+            ..sums
+        }
     }
 
     // How many of its delays there are of which no more than this is told.
@@ -181,7 +234,7 @@ impl LifeTally {
     {
         match self.spec {
             FlowSpec::Unsolicited { .. } => self.unsolicited,
-            _ => u128::from(self.service.granted()),
+            _ => u128::from(self.service.granted() - self.beginning.granted),
         }
     }
 

@@ -1,6 +1,7 @@
 //! The lives of all flows of a history, in the order of their admissions.
 
-ghost use Rattle.std.specs.Prelude.{◌≡◌, ◌<◌, ◌^◌, ◌++◌, ◌∷◌, [], List, map, length, sum_by, slice_index, slice_set};
+ghost use Rattle.std.specs.Prelude.{◌≡◌, ◌<◌, ◌^◌, ◌++◌, ◌∷◌, [], List, ℕ, map, length, sum_by, slice_index, slice_set};
+ghost use Rattle.sched_history.specs.History.{IsLegal};
 ghost use Rattle.std.specs.Prelude.{OnOk, OnErr, vec_len, vec_capacity};
 ghost use Rattle.std.specs.List.{cons_option, filter_map, zip};
 ghost use Rattle.minislots.specs.declared.config.Config.{Config};
@@ -11,7 +12,7 @@ ghost use Rattle.sched_history.specs.Life.{grant_by, grants_of_map};
 ghost use Rattle.sched_history.specs.Time.{next_after};
 ghost use Rattle.sched_report.specs.Granted.{HaveMore, MayGrantEach, MayCountEach};
 ghost use Rattle.sched_report.specs.Live.{AreLive, HaveRoomFor, IsAlone};
-ghost use Rattle.sched_report.specs.Lives.{PastLife, opening_by, life_begun, lives_of, with_entry};
+ghost use Rattle.sched_report.specs.Lives.{PastLife, opening_by, life_begun, lives_in, with_entry};
 ghost use Rattle.sched_report.specs.Lives.{IsRequest, IsOpening};
 ghost use Rattle.sched_report.specs.Named.{HasNoMap};
 ghost use Rattle.sched_report.specs.Said.{unsolicited_at, unsolicited_of_map};
@@ -295,6 +296,18 @@ pub(crate) fn next_with(next: u64, config: &Checked, entry: &Entry) -> u64
     }
 }
 
+// What is told of each life begins anew here, behind a whole history, where the next frame starts there.
+pub(crate) fn renew_each(lives: &mut [LifeTally], next: u64)
+    requires { (c : Config) × (passed : ℕ) × (h : List Recorded) × AreLives c lives.old (lives_in passed h) }
+    ensures lives { (c : Config) (passed : ℕ) (h : List Recorded) → IsLegal c h → next ≡ next_after c h
+        → AreLives c lives.old (lives_in passed h) → AreLives c lives.new (lives_in (length h) h) }
+    ensures live { (places : List ℕ) → AreLive places lives.old → AreLive places lives.new }
+{
+    for index in 0..lives.len() {
+        lives[index].renew(next);
+    }
+}
+
 // Goes on with an entry that follows the history of these lives, before which the next frame starts there, and whose
 // MAP meets these opportunities. Answers where the next frame starts then.
 pub(crate) fn follow(
@@ -306,19 +319,19 @@ pub(crate) fn follow(
     met: &[Met],
     entry: &Entry,
 ) -> u64
-    requires may { (h : List Recorded)
-        × MayFollow config.now h lives.old.items next met.now entry.now }
+    requires may { (passed : ℕ) × (h : List Recorded)
+        × MayFollow config.now passed h lives.old.items next met.now entry.now }
     requires requests { IsRequest entry.now.call entry.now.reply
         → HaveRoomFor config.now entry.now.call entry.now.reply lives.old.items }
     requires opening { IsOpening entry.now.call entry.now.reply
         → vec_len lives.old < vec_capacity lives.old }
     requires live { AreLive places.old lives.old.items }
-    ensures lives { (h : List Recorded)
-        → MayFollow config.now h lives.old.items next met.now entry.now
-        → AreLives config.now lives.new.items (lives_of (h ++ entry.now ∷ [])) }
+    ensures lives { (passed : ℕ) (h : List Recorded)
+        → MayFollow config.now passed h lives.old.items next met.now entry.now
+        → AreLives config.now lives.new.items (lives_in passed (h ++ entry.now ∷ [])) }
     ensures live { AreLive places.new lives.new.items }
-    ensures next { (h : List Recorded)
-        → MayFollow config.now h lives.old.items next met.now entry.now
+    ensures next { (passed : ℕ) (h : List Recorded)
+        → MayFollow config.now passed h lives.old.items next met.now entry.now
         → result ≡ next_after config.now (h ++ entry.now ∷ []) }
 {
     note_each(lives, places, config, next, met, entry);

@@ -4,18 +4,19 @@ ghost use Rattle.std.specs.Prelude.{◌≡◌, ◌<◌, ◌≤◌, ◌^◌, ◌�
 ghost use Rattle.std.specs.Prelude.{IfOk, OnOk, OnErr, IsErrOf};
 ghost use Rattle.sched_calls.specs.declared.reply.TheConstants.{MAX_WHOLE_HISTORY};
 ghost use Rattle.sched_history.specs.History.{IsStep, IsLegal};
+ghost use Rattle.sched_history.specs.Time.{next_after};
 ghost use Rattle.sched_report.specs.Counts.{CountsRefusals};
-ghost use Rattle.sched_report.specs.Totals.{totals_of};
-ghost use Rattle.sched_report.specs.Lives.{PastLife, lives_of};
+ghost use Rattle.sched_report.specs.Window.{whole, entries_of, totals_told, lives_told};
+ghost use Rattle.sched_report.specs.Lives.{PastLife, is_told};
 ghost use Rattle.sched_report.specs.Ranks.{lives_of_rank, AreRankNumbers};
 ghost use Rattle.sched_report.specs.ToldLives.{MayLackReportMemory, AreLifeNumbers};
 
 use crate::calls::{REFUSALS, count_refusal};
 use crate::life::{LifeNumbers, LifeTally};
-use crate::lives::{follow, reserve_for};
+use crate::lives::{follow, renew_each, reserve_for};
 use crate::ranks::{RankNumbers, numbers_of};
 use crate::totals::Totals;
-use crate::under::{count_under, reserve_count};
+use crate::under::{count_under, renew_counts, reserve_count};
 use frame_picture::{Flows, no_flows, note};
 use minislots::Checked;
 use sched_history::{Auditor, Entry, JudgeFault, MAX_WHOLE_HISTORY};
@@ -28,7 +29,8 @@ const SIDS: usize = 65536;
 /// Takes a history entry by entry, and tells its numbers. Each entry is judged as by an [`Auditor`], and is counted
 /// where its reply may follow those before it. No entry is kept, so however many are taken, the memory is that of the
 /// auditor, of a table of all SIDs, of the flows that lived and of the requests that wait. Contracts see the
-/// configuration and the entries that were taken, which are legal.
+/// configuration and the entries that were taken, which are legal, and how many of them came before what is told: from
+/// [`Reporter::renew`] on it tells of what follows alone.
 #[derive(Drop)]
 pub struct Reporter {
     config: Checked,
@@ -45,19 +47,25 @@ pub struct Reporter {
     places: Vec<usize>,
     // How often each life waited under its minimum reserved rate, at the places of the lives.
     under: Vec<u64>,
+    // How many entries came before what is told.
+    passed: u64,
 }
 
 impl Model for Reporter {
-    ghost use Rattle.sched_history.specs.Machine.{Past};
+    ghost use Rattle.sched_report.specs.Window.{Window};
 
-    ghost Value = { Past };
+    ghost Value = { Window };
 
     ghost use Rattle.sched_report.specs.Reported.{IsReport};
 
-    ghost view = { λ r. r.auditor };
+    ghost view = { λ r. record {
+      config = r.auditor.config;
+      history = r.auditor.history;
+      passed = r.passed;
+    } };
 
     ghost invariant = { λ r.
-        IsReport r.config r.auditor r.flows.value r.totals r.refused r.next r.lives.items
+        IsReport r.config r.auditor r.passed r.flows.value r.totals r.refused r.next r.lives.items
         r.places.items r.under.items };
 }
 
@@ -65,7 +73,7 @@ impl Reporter {
     /// A reporter under this configuration, which has taken no entry.
     #[inline(never)]
     pub fn open(alloc: Global, config: Checked) -> Result<Reporter, AllocError>
-        ensures { IfOk result (λ r. r ≡ record { config = config; history = [] }) }
+        ensures { IfOk result (λ r. r ≡ whole config []) }
     {
         Ok(Reporter {
             config,
@@ -78,6 +86,7 @@ impl Reporter {
             lives: Vec::new(alloc),
             places: vec![in alloc; 0; SIDS]?,
             under: Vec::new(alloc),
+            passed: 0,
         })
     }
 
@@ -143,33 +152,61 @@ impl Reporter {
         Ok(())
     }
 
-    /// The numbers of the entries that were taken.
+    /// Tells from here on of what follows alone, with the flows that live. Their requests that wait are told of no more;
+    /// the bytes that are outstanding are carried.
+    pub fn renew(&mut self)
+        ensures { self.new ≡ record self.old { passed = length self.old.history } }
+    {
+        self.passed = self.auditor.taken();
+        self.totals = Totals::none(&self.config);
+        self.refused = [0; REFUSALS];
+        renew_each(&mut self.lives, self.next);
+        renew_counts(&mut self.under);
+    }
+
+    /// Where the next frame starts after the entries that were taken.
+    pub fn next(&self) -> u64
+        ensures { result ≡ next_after self.now.config self.now.history }
+    {
+        let next = self.next;
+        next
+    }
+
+    /// The numbers of the entries that are told of.
     pub fn totals(&self) -> Totals
-        ensures { result ≡ totals_of self.now.config self.now.history }
+        ensures { result ≡ totals_told self.now }
     {
         let totals = self.totals;
         totals
     }
 
-    /// How many refusals with each number there are among the entries that were taken: with 1 first, with 23 last.
+    /// How many refusals with each number there are among the entries that are told of: with 1 first, with 23 last.
     pub fn refused(&self) -> &[u64]
-        ensures { CountsRefusals result.now self.now.history }
+        ensures { CountsRefusals result.now (entries_of self.now) }
     {
         &self.refused
     }
 
     /// How many lives of flows the entries that were taken have, those that ended among them.
     pub fn lives(&self) -> usize
-        ensures { result ≡ length (lives_of self.now.history) }
+        ensures { result ≡ length (lives_told self.now) }
     {
         self.lives.as_slice().len()
     }
 
+    /// Whether the life at a place in the order of the admissions is told of: not where it ended before.
+    pub fn is_told(&self, place: usize) -> bool
+        requires { place < length (lives_told self.now) }
+        ensures { (life : PastLife) → result ≡ is_told (slice_index_or (lives_told self.now) place life) }
+    {
+        self.lives[place].is_told()
+    }
+
     /// The numbers of the life at a place in the order of the admissions.
     pub fn life(&self, place: usize) -> LifeNumbers
-        requires { place < length (lives_of self.now.history) }
+        requires { place < length (lives_told self.now) }
         ensures told { (life : PastLife) → AreLifeNumbers self.now.config result
-            (slice_index_or (lives_of self.now.history) place life) }
+            (slice_index_or (lives_told self.now) place life) }
         ensures few { result.granted < 2 ^ 90 }
     {
         self.lives[place].numbers(self.next, self.under[place])
@@ -178,7 +215,7 @@ impl Reporter {
     /// The numbers of a rank: of polled flows in [`POLLED`](crate::POLLED), of best effort flows in their priority.
     pub fn rank(&self, rank: u8) -> RankNumbers
         ensures { AreRankNumbers self.now.config result
-            (lives_of_rank rank (lives_of self.now.history)) }
+            (lives_of_rank rank (lives_told self.now)) }
     {
         numbers_of(&self.lives, rank)
     }

@@ -1,6 +1,6 @@
 //! The request of a flow that an entry is.
 
-ghost use Rattle.std.specs.Prelude.{◌≡◌, ◌++◌, ◌∷◌, [], List, Some};
+ghost use Rattle.std.specs.Prelude.{◌≡◌, ◌≤◌, ◌++◌, ◌∷◌, [], List, ℕ, Some, length};
 ghost use Rattle.sched_calls.specs.declared.reply.Entry.{Entry as Recorded};
 ghost use Rattle.sched_report.specs.declared.service.Request.{Request as Asked};
 ghost use Rattle.sched_report.specs.Named.{HasNoMap};
@@ -72,13 +72,14 @@ fn supersedes(sid: u16, entry: &Entry) -> bool
 
 // Counts the request that an entry without a MAP is, where it is one of this SID.
 pub(crate) fn note_request(service: &mut Service, config: &Checked, sid: u16, entry: &Entry)
-    requires may { (before : List Recorded) × IsServiceAfter config.now service.old sid before
-        × MayCount config.now sid before entry.now }
+    requires may { (passed : ℕ) × (before : List Recorded) × IsServiceAfter config.now service.old sid passed before
+        × (passed ≤ length before) × MayCount config.now sid before entry.now }
     requires room { (r : Asked) → request_by config.now sid entry.now.call entry.now.reply ≡ Some r
         → HasRoom service.old }
     requires unbuilt { HasNoMap entry.now.reply }
-    ensures { (before : List Recorded) → IsServiceAfter config.now service.old sid before
-        → IsServiceAfter config.now service.new sid (before ++ entry.now ∷ []) }
+    ensures { (passed : ℕ) (before : List Recorded) → IsServiceAfter config.now service.old sid passed before
+        → passed ≤ length before
+        → IsServiceAfter config.now service.new sid passed (before ++ entry.now ∷ []) }
 {
     if supersedes(sid, entry) {
         service.supersede();

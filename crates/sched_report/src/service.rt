@@ -197,6 +197,26 @@ impl Service {
         }
     }
 
+    /// Forgets the requests, those that wait among them: what is told begins anew. Answers the bytes that were asked, and
+    /// those granted.
+    pub fn renew(&mut self) -> (u64, u64)
+        requires { (c : Config) × (claims : List Claim) × (bytes : ℕ) × (grants : List DataGrant)
+            × IsServiceOf c self.old claims bytes grants }
+        ensures none { (c : Config) (claims : List Claim) (bytes : ℕ) (grants : List DataGrant)
+            → IsServiceOf c self.old claims bytes grants → IsServiceOf c self.new [] bytes grants }
+        ensures bytes { (c : Config) (claims : List Claim) (bytes : ℕ) (grants : List DataGrant)
+            → IsServiceOf c self.old claims bytes grants
+            → (result.0 ≡ bytes) × (result.1 ≡ bytes_of grants) × (result.1 ≤ result.0) }
+        ensures within { result.1 ≤ result.0 }
+    {
+        self.asks = 0;
+        self.replaced = 0;
+        self.delays = Delays::none();
+        self.spread.clear();
+        self.waiting.clear();
+        (self.asked, self.granted)
+    }
+
     /// What there was of requests and grants.
     pub fn sums(&self) -> Sums
         ensures { (c : Config) (claims : List Claim) (bytes : ℕ) (grants : List DataGrant)

@@ -50,6 +50,14 @@ impl Spread {
         self.steps.reserve(more)
     }
 
+    // Forgets all delays, and keeps the memory.
+    pub(crate) fn clear(&mut self)
+        ensures items { self.new.steps.items ≡ [] }
+        ensures len { vec_len self.new.steps ≡ 0 }
+    {
+        self.steps.clear();
+    }
+
     // Counts one delay more.
     pub(crate) fn add(&mut self, delay: u64)
         requires reach { delay < 3 * 2 ^ 62 }

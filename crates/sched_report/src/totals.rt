@@ -1,4 +1,4 @@
-//! The numbers of a whole history.
+//! The numbers of entries of a history.
 
 ghost use Rattle.std.specs.Prelude.{◌≡◌, ◌+◌, ◌^◌, ◌<◌, ◌≤◌, ◌∷◌, ◌++◌, [], List, if◌then◌else◌};
 ghost use Rattle.sched_calls.specs.declared.reply.Entry.{Entry as Recorded};
@@ -15,7 +15,7 @@ use map_build::FrameMap;
 use minislots::Checked;
 use sched_history::{Call, Entry, Met, Reply};
 
-/// The numbers of a whole history.
+/// The numbers of entries of a history.
 #[derive(Clone, Copy)]
 pub struct Totals {
     /// How many MAPs were built.
@@ -39,7 +39,7 @@ pub struct Totals {
 impl Totals {
     // Those of no entry under a configuration.
     pub(crate) fn none(config: &Checked) -> Totals
-        ensures { AreTotals config.now [] result }
+        ensures { (before : List Recorded) → AreTotals config.now before [] result }
     {
         Totals {
             frames: 0,
@@ -55,10 +55,10 @@ impl Totals {
 
     // Counts an entry that follows those counted, whose MAP meets these opportunities.
     pub(crate) fn add(&mut self, config: &Checked, flows: &Flows, met: &[Met], entry: &Entry)
-        requires { (h : List Recorded)
-            × IsCounted config.now h self.old flows.now met.now entry.now }
-        ensures { (h : List Recorded) → IsCounted config.now h self.old flows.now met.now entry.now
-            → AreTotals config.now (h ++ entry.now ∷ []) self.new }
+        requires { (before : List Recorded) × (es : List Recorded)
+            × IsCounted config.now before es self.old flows.now met.now entry.now }
+        ensures { (before es : List Recorded) → IsCounted config.now before es self.old flows.now met.now entry.now
+            → AreTotals config.now before (es ++ entry.now ∷ []) self.new }
     {
         let frame = config.frame();
         self.calls.add(entry);

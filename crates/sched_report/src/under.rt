@@ -53,6 +53,14 @@ pub(crate) fn reserve_count(under: &mut Vec<u64>, entry: &Entry) -> Result<(), A
     }
 }
 
+// Counts anew from here on.
+pub(crate) fn renew_counts(under: &mut [u64])
+    ensures len { length under.new ≡ length under.old }
+    ensures none { (k n : ℕ) → k < length under.new → slice_index_or under.new k n ≡ 0 }
+{
+    under.fill(0);
+}
+
 // Counts an entry that follows the history of these lives, where the flows of these SIDs wait under their reservations
 // where its MAP starts. A life that the entry begins is not counted yet.
 pub(crate) fn count_under(
@@ -64,10 +72,11 @@ pub(crate) fn count_under(
 )
     requires room { IsOpening entry.now.call entry.now.reply → vec_len under.old < vec_capacity under.old }
     requires live { AreLive places.now lives.now }
-    requires may { (c : Config) × (h : List Recorded)
-        × MayCountUnder c h lives.now under.old.items sids.now entry.now }
-    ensures { (c : Config) (h : List Recorded) → MayCountUnder c h lives.now under.old.items sids.now entry.now
-        → AreUnder c (h ++ entry.now ∷ []) under.new.items }
+    requires may { (c : Config) × (passed : ℕ) × (h : List Recorded)
+        × MayCountUnder c passed h lives.now under.old.items sids.now entry.now }
+    ensures { (c : Config) (passed : ℕ) (h : List Recorded)
+        → MayCountUnder c passed h lives.now under.old.items sids.now entry.now
+        → AreUnder c passed (h ++ entry.now ∷ []) under.new.items }
 {
     count_each(under, lives, places, sids);
     if opening_of(entry).is_some() {

@@ -15,7 +15,11 @@ returns c =
     c.in_ok-report_metrics_option.ensures.named in
     let fourth = IsCommand-arg _ _ c.in_ok-report_picture_option.field-0 (codes "report") (codes "svg") _ [] third
     c.in_ok-arg-4.ensures c.in_ok-report_picture_option.ensures.local c.in_ok-report_picture_option.ensures.named in
-    let fifth = IsCommand-arg _ _ _ (codes "report") (codes "journal") _ [] fourth c.in_ok-arg-5.ensures
+    let fifth = IsCommand-arg _ _ c.in_ok-time_option.field-0 (codes "report") (codes "from") _ [] fourth
+    c.in_ok-arg-5.ensures c.in_ok-time_option.ensures.local c.in_ok-time_option.ensures.named in
+    let sixth = IsCommand-arg _ _ c.in_ok-time_option-2.field-0 (codes "report") (codes "to") _ [] fifth
+    c.in_ok-arg-6.ensures c.in_ok-time_option-2.ensures.local c.in_ok-time_option-2.ensures.named in
+    let seventh = IsCommand-arg _ _ _ (codes "report") (codes "journal") _ [] sixth c.in_ok-arg-7.ensures
     c.journal_option-lines.ensures.local c.journal_option-lines.ensures.named in
-    IfOk-weaker _ _ _ (λ r adds. IsCommand-arg _ r _ (codes "report") (codes "FILE") _ [] fifth adds
-    c.file_word.ensures.local c.file_word.ensures.named) c.arg-6.ensures
+    IfOk-weaker _ _ _ (λ r adds. IsCommand-arg _ r _ (codes "report") (codes "FILE") _ [] seventh adds
+    c.file_word.ensures.local c.file_word.ensures.named) c.arg-8.ensures

@@ -41,6 +41,8 @@ complete -c mapsched -n '__mapsched_asks report' -l all -d 'Prints all flows, in
 complete -c mapsched -n '__mapsched_asks report' -l json -d 'Prints all numbers in JSON'
 complete -c mapsched -n '__mapsched_asks report' -l openmetrics -d 'Prints them as OpenMetrics text'
 complete -c mapsched -n '__mapsched_asks report' -l svg -d 'Prints a picture of them in SVG'
+complete -c mapsched -n '__mapsched_asks report' -l from -x -d 'Tells of no entry before this time'
+complete -c mapsched -n '__mapsched_asks report' -l to -x -d 'Tells of no entry from this time on'
 complete -c mapsched -n '__mapsched_asks report' -l journal -d 'Reads a journal, of any length'
 complete -c mapsched -n '__mapsched_asks report' -s h -l help -d 'Print help'
 complete -c mapsched -n '__mapsched_asks storm' -s h -l help -d 'Print help'

@@ -1,6 +1,7 @@
 -- Whatever ends the journal: an entry that may not follow, or one too many, a line that is none, or the end.
-use Rattle.std.proofs.Common.{◌+◌, ◌++◌, ◌∷◌, [], refl, sym, subst, inl}
-use Rattle.sched_history.specs.Machine.{Past}
+use Rattle.std.proofs.Common.{◌≡◌, true, ◌+◌, ◌++◌, ◌∷◌, [], refl, sym, ◌∙◌, subst, inl, inr}
+use Rattle.report_command.specs.declared.range.Range.{Range}
+use Rattle.report_command.specs.Range.{Ranged, GoesOn, ticks_after, is_over}
 use Rattle.journal_entries.specs.Journal.{FindsIllegalIn, FindsNoEntryIn}
 use Rattle.journal_entries.specs.End.{EndsIllegal}
 use Rattle.journal_entries.proofs.Reading.{FindsIllegal-with, HasTooMany-with}
@@ -22,7 +23,10 @@ returns-in-Err-Illegal-clause-takes g c = λ before read.
           (FindsIllegal-with before _ left k es e stands so_far.legal (fault.illegal refl));
       behind = at.count;
     } in
-    subst (λ (p : Past). EndsIllegal before left p.config p.history c.loop-place.place) (sym fault.err) here
+    let goes_on : GoesOn k c.args.reporter.now.range es =
+    subst (λ (r : Range). GoesOn k r es) at.range (c.is_over.ensures.goes_on c.if-is_over.false) in
+    subst (λ (p : Ranged). EndsIllegal before left p.config p.history c.loop-place.place
+    × GoesOn p.config c.args.reporter.now.range p.history) (sym fault.err) (here, goes_on)
 
 pub returns-in-Err-Full-clause-stops : goal.returns-in-Err-Full-clause-stops
 returns-in-Err-Full-clause-stops g c = λ before read.
@@ -37,14 +41,29 @@ pub returns-in-Ok-NoEntry-clause-takes : goal.returns-in-Ok-NoEntry-clause-takes
 returns-in-Ok-NoEntry-clause-takes g c = λ before read.
     let at = c.loop-place.invariant in
     let k = c.loop-place.reporter.config in
-    let es = c.loop-place.reporter.history in
-    subst (λ n. FindsNoEntryIn before (g.R.Source.remaining c.next.new.reader) k es (n + 1)) (sym at.count)
-    ((rw c.in-Ok-NoEntry.field-0-is at c.in-Ok-NoEntry.ensures).reads before k es (at.so_far before read))
+    let es = c.loop-place.reporter.history in (
+      subst (λ n. FindsNoEntryIn before (g.R.Source.remaining c.next.new.reader) k es (n + 1)) (sym at.count)
+          ((rw c.in-Ok-NoEntry.field-0-is at c.in-Ok-NoEntry.ensures).reads before k es (at.so_far before read)),
+      subst (λ (r : Range). GoesOn k r es) at.range (c.is_over.ensures.goes_on c.if-is_over.false),
+    )
 
 pub returns-in-Ok-End-clause-takes : goal.returns-in-Ok-End-clause-takes
 returns-in-Ok-End-clause-takes g c = λ before read.
-    (rw c.in-Ok-End.field-0-is at c.in-Ok-End.ensures).reads before c.loop-place.reporter.config
-    c.loop-place.reporter.history (c.loop-place.invariant.so_far before read)
+    inl ((rw c.in-Ok-End.field-0-is at c.in-Ok-End.ensures).reads before c.loop-place.reporter.config
+    c.loop-place.reporter.history (c.loop-place.invariant.so_far before read))
+
+pub returns-then-is_over-clause-takes : goal.returns-then-is_over-clause-takes
+returns-then-is_over-clause-takes g c = λ before read.
+    let at = c.loop-place in
+    let over : is_over at.reporter.range.to (ticks_after at.reporter.config at.reporter.history) ≡ true =
+    sym c.is_over.ensures.over ∙ c.if-is_over.true in
+    inr (
+      refl,
+      subst (λ (r : Range). is_over r.to (ticks_after at.reporter.config at.reporter.history) ≡ true) at.invariant.range
+          over,
+      at.entries,
+      at.invariant.so_far before read,
+    )
 
 pub returns-in-Err-clause-stops : goal.returns-in-Err-clause-stops
 returns-in-Err-clause-stops g c = λ before read.

@@ -10,6 +10,7 @@ invariant-loop-place g l = record {
       → HasRead before (g.R.Source.remaining l.initial.reader) l.initial.entries l.initial.reporter.config []
       → HasRead before (g.R.Source.remaining l.reader) l.entries l.reporter.config l.reporter.history;
   config : l.reporter.config ≡ l.initial.reporter.config;
+  range : l.reporter.range ≡ l.initial.reporter.range;
   count : l.place ≡ length l.reporter.history;
   most : length l.reporter.history ≤ MAX_WHOLE_HISTORY;
   unfailed : g.R.Source.has_failed l.reader ≡ g.R.Source.has_failed l.initial.reader;

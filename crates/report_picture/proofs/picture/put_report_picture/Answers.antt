@@ -1,7 +1,6 @@
 -- The picture of what was taken.
 use Rattle.std.proofs.Common.{refl, length}
-use Rattle.frame_picture.specs.Frames.{frames_of}
-use Rattle.sched_report.specs.Totals.{totals_of}
+use Rattle.sched_report.specs.Window.{frames_told, totals_told}
 use Rattle.report_picture.specs.OverTime.{all_steps}
 use Rattle.report_picture.specs.Picture.{report_text, course_of}
 use Rattle.report_picture.proofs.picture.put_report_picture.Goals as goal
@@ -9,12 +8,12 @@ use Rattle.report_picture.proofs.picture.put_report_picture.Goals as goal
 pub returns : goal.returns
 returns g c =
     let past = c.args.timed.now in
-    let fs = frames_of past.history in
+    let fs = frames_told past in
     let width = c.over_time-over_time.result.now.width in
     let told = c.over_time-over_time.ensures.told in
     let ranks = c.ranks_told-ranks.result in (
-      report_text (course_of past.config (totals_of past.config past.history) (length fs) width)
-          (totals_of past.config past.history) (all_steps past.config width fs) ranks,
+      report_text (course_of past.config (totals_told past) (length fs) width)
+          (totals_told past) (all_steps past.config width fs) ranks,
       record {
         width = width;
         is_width = told.width;

@@ -18,13 +18,13 @@ loop-index-preserved c =
       | then-numbers-gt0 w ↦
           let is = w.ranks-is ∙ w.push.ensures in (
             rw is
-                (first-ranks-more past.config past.history at.ranks at.index 0 new at.invariant.0 c.loop-index-test.true
+                (first-ranks-more past at.ranks at.index 0 new at.invariant.0 c.loop-index-test.true
                 refl c.rank-numbers.ensures w.if-numbers-gt0.true),
             omega (arith, ap length is, length_push at.ranks new, at.invariant.1),
           )
       | else-numbers-gt0 w ↦ (
         rw w.ranks-is
-            (first-ranks-same past.config past.history at.ranks at.index 0 numbers at.invariant.0 c.loop-index-test.true
+            (first-ranks-same past at.ranks at.index 0 numbers at.invariant.0 c.loop-index-test.true
             c.rank-numbers.ensures (omega (arith, w.if-numbers-gt0.false))),
         omega (arith, ap length w.ranks-is, at.invariant.1),
       )

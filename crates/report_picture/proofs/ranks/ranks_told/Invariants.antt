@@ -5,4 +5,4 @@ use Rattle.report_picture.proofs.ranks.ranks_told.Given as goal
 
 abbrev pub invariant-loop-index : goal.invariant-loop-index
 invariant-loop-index l =
-    AreFirstRanks l.reporter.config l.reporter.history l.ranks l.index × (length l.ranks ≤ l.index)
+    AreFirstRanks l.reporter l.ranks l.index × (length l.ranks ≤ l.index)

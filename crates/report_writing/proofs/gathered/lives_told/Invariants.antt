@@ -4,5 +4,4 @@ use Rattle.report_writing.proofs.Gathering.{AreFirstLives}
 use Rattle.report_writing.proofs.gathered.lives_told.Given as goal
 
 abbrev pub invariant-loop-place : goal.invariant-loop-place
-invariant-loop-place l =
-    AreFirstLives l.reporter.config l.reporter.history l.lives.items l.place × AreFew l.lives.items
+invariant-loop-place l = AreFirstLives l.reporter l.lives.items l.place × AreFew l.lives.items

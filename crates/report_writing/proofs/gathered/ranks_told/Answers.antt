@@ -16,10 +16,10 @@ loop-index-preserved c =
     elim c.if-numbers-gt0.branch [
       | then-numbers-gt0+in_ok-push w ↦
           rw (w.ranks-is, w.in_ok-push.ensures.items)
-          (first-ranks-more past.config past.history at.ranks.items at.index 0 new at.invariant c.loop-index-test.true
+          (first-ranks-more past at.ranks.items at.index 0 new at.invariant c.loop-index-test.true
           refl c.rank-numbers.ensures w.if-numbers-gt0.true)
       | else-numbers-gt0 w ↦
           rw (w.ranks-is)
-          (first-ranks-same past.config past.history at.ranks.items at.index 0 numbers at.invariant
+          (first-ranks-same past at.ranks.items at.index 0 numbers at.invariant
           c.loop-index-test.true c.rank-numbers.ensures (omega (arith, w.if-numbers-gt0.false)))
     ]

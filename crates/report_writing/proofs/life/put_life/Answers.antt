@@ -6,6 +6,7 @@ pub returns-clause-ok : goal.returns-clause-ok
 unfolding life_data
 returns-clause-ok c =
     rw (
+      c.told_above_0.ensures,
       c.spread_of.ensures,
       c.kind_name.ensures,
       c.priority_of.ensures,

@@ -19,7 +19,7 @@ pub returns-in-Some-clause-lives : goal.returns-in-Some-clause-lives
 returns-in-Some-clause-lives c = λ k h ls from are.
     let o = c.in-Some.opening in
     let upto = h ++ c.args.entry.now ∷ [] in
-    let last : PastLife = record { sid = o.sid; first = o.spec; upto = upto; since = []; ended = false } in
+    let last : PastLife = record { sid = o.sid; first = o.spec; upto = upto; since = []; ended = false; passed = 0 } in
     let is : opening_by c.args.entry.now.call c.args.entry.now.reply ≡ Some o =
     sym c.opening_of.ensures ∙ c.in-Some.is in
     subst (λ x. AreLives k c.push_reserved.new.self.items (ls ++ life_begun upto x [])) (sym is)

@@ -1,5 +1,5 @@
 -- The lives are counted by the SIDs gone through.
-use Rattle.std.proofs.Common.{◌≡◌, take, length}
+use Rattle.std.proofs.Common.{take}
 use Rattle.sched_report.specs.Under.{HasCounted}
 use Rattle.sched_report.proofs.under.count_each.Given as goal
 

@@ -17,7 +17,7 @@ pub returns : goal.returns
 returns c = λ k. record {
   sid = refl;
   spec = refl;
-  from = refl;
+  beginning = refl;
   to = refl;
   ended = λ never. absurd (never (no_end c.args.self.now.to (sym c.is_some.ensures ∙ c.if-is_some.false)));
   service = λ alive claims bytes before is.

@@ -9,7 +9,7 @@ use Rattle.sched_report.specs.Ranks.{chosen, delays_in_all}
 use Rattle.sched_report.specs.Said.{delays_in, priority_of}
 use Rattle.sched_report.specs.Spread.{TellsPercentile}
 use Rattle.sched_report.specs.ToldLives.{AreLives}
-use Rattle.sched_report.proofs.LifeTold.{some_end, end_told, AreLives-one, one_of}
+use Rattle.sched_report.proofs.LifeTold.{some_end, end_told, granted-split, AreLives-one, one_of}
 use Rattle.sched_report.proofs.life.LifeTally.numbers.Goals as goal
 
 pub percentile-requires-clause-lives : goal.percentile-requires-clause-lives
@@ -67,10 +67,7 @@ percentile-requires-2-clause-greatest c = λ k ls are.
     ∙ ap (λ (some : List PastLife). greatest_of (delays_in_all k (chosen None some))) (sym one.1)
 
 pub overflow_sub-result : goal.overflow_sub-result
-overflow_sub-result c =
-    let is = c.requires.2.service in
-    let sums = c.sums-sums.ensures.sums c.requires.0 c.requires.1 c.requires.2 in
-    omega (arith, is.within, is.asked, is.granted, sums.asked, sums.granted)
+overflow_sub-result c = omega (arith, c.sums-sums.ensures.within)
 
 pub returns-clause-told : goal.returns-clause-told
 returns-clause-told c = λ k life is now under.
@@ -87,9 +84,18 @@ returns-clause-told c = λ k life is now under.
           ∙ end_told life.ended (next_after k (life.upto ++ life.since)) c.args.next t.to is.to now;
       ended = c.is_some.ensures ∙ some_end life.ended (next_after k (life.upto ++ life.since)) t.to is.to;
       priority = c.priority_of.ensures ∙ ap priority_of is.spec;
+      carried = is.carried;
       sums = sums;
       granted = c.granted.ensures.granted k life is;
-      outstanding = omega (arith, sums.asked, sums.granted);
+      outstanding = omega (
+        arith,
+        sums.asked,
+        sums.granted,
+        granted-split life,
+        is.service.asked,
+        is.service.granted,
+        is.service.within,
+      );
       waiting = c.waiting.ensures k life is;
       dropped = c.dropped.ensures k life is;
       middle = subst (λ (ds : List ℕ). TellsPercentile 50 ds c.percentile.result) (append-nil (delays_in k life))

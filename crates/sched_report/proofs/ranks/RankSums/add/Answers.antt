@@ -1,9 +1,8 @@
 -- Those of a life are added.
 use Rattle.std.proofs.Common.{◌≡◌, ◌∙◌, ap, arith}
 use Rattle.flow_book.specs.Flows.{bytes_of}
-use Rattle.sched_history.specs.Life.{grants_since}
 use Rattle.sched_report.specs.Lives.{spec_of}
-use Rattle.sched_report.specs.Said.{granted_in, unsolicited_in}
+use Rattle.sched_report.specs.Said.{granted_in, grants_in, unsolicited_in}
 use Rattle.sched_report.specs.Ranks.{both_least, both_greatest}
 use Rattle.sched_report.proofs.Ranked.{AreRankSums-push, granted_under-asking}
 use Rattle.sched_report.proofs.ranks.RankSums.add.Goals as goal
@@ -12,8 +11,8 @@ pub returns-clause-sums : goal.returns-clause-sums
 returns-clause-sums c = λ k ls l is asks are.
     let s = c.args.self.now in
     let sums = c.sums-sums.ensures.sums k l is in
-    let granted : granted_in k l ≡ bytes_of (grants_since l.sid l.since) =
-    granted_under-asking (spec_of l) (unsolicited_in k l) (bytes_of (grants_since l.sid l.since)) asks in
+    let granted : granted_in k l ≡ bytes_of (grants_in l) =
+    granted_under-asking (spec_of l) (unsolicited_in k l) (bytes_of (grants_in l)) asks in
     AreRankSums-push k s _ ls l are
     (omega (arith, c.from.ensures, sums.asks))
     (omega (arith, c.from-2.ensures, sums.granted, granted))

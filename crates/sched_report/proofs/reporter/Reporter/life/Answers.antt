@@ -1,9 +1,9 @@
 -- The numbers are those of the life at the place.
 use Rattle.std.proofs.Common.{◌<◌, ◌≡◌, ℕ, length, get_or, sym, ap, subst, arith}
 use Rattle.minislots.specs.declared.config.Config.{Config}
-use Rattle.sched_history.specs.Machine.{Past}
 use Rattle.sched_report.specs.declared.life.LifeTally.{LifeTally}
-use Rattle.sched_report.specs.Lives.{lives_of}
+use Rattle.sched_report.specs.Lives.{lives_in}
+use Rattle.sched_report.specs.Window.{Window, lives_told}
 use Rattle.sched_report.specs.Told.{IsLifeOf}
 use Rattle.sched_report.specs.ToldLives.{AreLifeNumbers}
 use Rattle.sched_report.specs.UnderIn.{under_in}
@@ -16,12 +16,13 @@ numbers-requires c =
     let i = c.self.invariant in
     let k = c.self.inside.config in
     let h = c.self.inside.auditor.history in
+    let ls = lives_in c.self.inside.passed h in
     let place = c.args.place in
-    let below : place < length (lives_of h) =
-    omega (arith, c.requires, ap (λ (p : Past). length (lives_of p.history)) c.self.view_is) in (
+    let below : place < length ls =
+    omega (arith, c.requires, ap (λ (w : Window). length (lives_told w)) c.self.view_is) in (
       k,
-      get_or (lives_of h) place no_life,
-      subst (λ (t : LifeTally). IsLifeOf k t (get_or (lives_of h) place no_life)) (sym c.index.ensures)
+      get_or ls place no_life,
+      subst (λ (t : LifeTally). IsLifeOf k t (get_or ls place no_life)) (sym c.index.ensures)
           (i.lives.each place c.index.result.now no_life (omega (arith, below, i.lives.long))),
     )
 
@@ -30,17 +31,18 @@ returns-clause-told c = λ life.
     let i = c.self.invariant in
     let k = c.self.inside.config in
     let h = c.self.inside.auditor.history in
+    let ls = lives_in c.self.inside.passed h in
     let place = c.args.place in
-    let below : place < length (lives_of h) =
-    omega (arith, c.requires, ap (λ (p : Past). length (lives_of p.history)) c.self.view_is) in
-    let is : IsLifeOf k c.index.result.now (get_or (lives_of h) place life) =
-    subst (λ (t : LifeTally). IsLifeOf k t (get_or (lives_of h) place life)) (sym c.index.ensures)
+    let below : place < length ls =
+    omega (arith, c.requires, ap (λ (w : Window). length (lives_told w)) c.self.view_is) in
+    let is : IsLifeOf k c.index.result.now (get_or ls place life) =
+    subst (λ (t : LifeTally). IsLifeOf k t (get_or ls place life)) (sym c.index.ensures)
     (i.lives.each place c.index.result.now life (omega (arith, below, i.lives.long))) in
-    let own : AreLifeNumbers k c.numbers.result (get_or (lives_of h) place life) =
-    c.numbers.ensures.told k (get_or (lives_of h) place life) is
-    (live_now k h i.legal place life below c.self.inside.next i.next)
-    (sym (subst (λ (n : ℕ). under_in k (get_or (lives_of h) place life) ≡ n) (sym c.index-2.ensures)
+    let own : AreLifeNumbers k c.numbers.result (get_or ls place life) =
+    c.numbers.ensures.told k (get_or ls place life) is
+    (live_now k c.self.inside.passed h i.legal i.passed_few place life below c.self.inside.next i.next)
+    (sym (subst (λ (n : ℕ). under_in k (get_or ls place life) ≡ n) (sym c.index-2.ensures)
     (sym (i.waited.each place c.index-2.result.now life (omega (arith, below, i.waited.long)))))) in
-    subst (λ (p : Past). AreLifeNumbers p.config c.numbers.result (get_or (lives_of p.history) place life))
+    subst (λ (w : Window). AreLifeNumbers w.config c.numbers.result (get_or (lives_told w) place life))
     c.self.view_is
-    (subst (λ (k : Config). AreLifeNumbers k c.numbers.result (get_or (lives_of h) place life)) i.config own)
+    (subst (λ (k : Config). AreLifeNumbers k c.numbers.result (get_or ls place life)) i.config own)

@@ -1,5 +1,5 @@
 -- Nothing is counted before any entry.
-use Rattle.std.proofs.Common.{◌≡◌, length, refl, sym, ap, subst, arith}
+use Rattle.std.proofs.Common.{◌≡◌, [], length, refl, sym, ap, subst, arith}
 use Rattle.std.proofs.lemmas.List.{get_or-replicate}
 use Rattle.sched_history.specs.Machine.{Past}
 use Rattle.sched_report.specs.Reported.{IsReport}
@@ -10,14 +10,15 @@ invariant_of-result c =
     let none : length c.new-2.result.items ≡ 0 = ap length c.new-2.ensures.items in
     let uncounted : length c.new-3.result.items ≡ 0 = ap length c.new-3.ensures.items in
     subst (λ (p : Past).
-    IsReport c.args.config p c.in_ok-new.field-0.value c.none.result _ c.start.result c.new-2.result.items
+    IsReport c.args.config p 0 c.in_ok-new.field-0.value c.none.result _ c.start.result c.new-2.result.items
     c.in_ok-vec.field-0.items c.new-3.result.items)
     (sym c.in_ok-open.ensures)
     (record {
       config = refl;
       legal = tt;
       told = rw c.in_ok-new.ensures.ok c.no_flows.ensures;
-      totals = c.none.ensures;
+      passed_few = omega arith;
+      totals = c.none.ensures [];
       refused = record { places = refl; each = λ place below. get_or-replicate 23 place 0 0 below };
       lawful = c.start.ensures.lawful;
       next = omega (arith, c.start.ensures.value);

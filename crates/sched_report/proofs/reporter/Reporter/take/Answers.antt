@@ -1,20 +1,24 @@
 -- An entry that is taken is counted.
-use Rattle.std.proofs.Common.{◌≡◌, ◌<◌, ℕ, Bool, List, [], length, inl, inr, sym, ap, ◌∙◌, subst}
+use Rattle.std.proofs.Common.{◌≡◌, ◌<◌, ℕ, Bool, List, [], ◌∷◌, ◌++◌, length, take, drop, inl, inr, sym, ap, ◌∙◌, subst}
+use Rattle.std.proofs.Common.{arith}
 use Rattle.std.specs.Vec.{with_items}
-use Rattle.std.proofs.lemmas.List.{with_items_is}
+use Rattle.std.proofs.lemmas.List.{with_items_is, length_push, take-append-drop, take-append-le, drop-append-le}
 use Rattle.std.proofs.lemmas.Bool.{cases_lt}
 use Rattle.minislots.specs.declared.config.Config.{Config}
 use Rattle.map_build.proofs.EachAfterLaws.{EachAfter-push}
 use Rattle.sched_calls.specs.declared.reply.TheConstants.{MAX_WHOLE_HISTORY}
 use Rattle.sched_history.specs.Facts.{under_by}
-use Rattle.sched_history.specs.History.{IsStep}
+use Rattle.sched_calls.specs.declared.reply.Entry.{Entry}
+use Rattle.sched_history.specs.History.{IsStep, IsLegal}
 use Rattle.sched_history.specs.Machine.{Past}
 use Rattle.sched_history.specs.Reserves.{met_after}
 use Rattle.frame_picture.specs.Frames.{TellsUnsolicited}
 use Rattle.sched_report.specs.Counted.{IsCounted}
 use Rattle.sched_report.specs.Reported.{IsReport}
 use Rattle.sched_report.specs.Live.{AreLive}
-use Rattle.sched_report.specs.Lives.{lives_of}
+use Rattle.sched_report.specs.Counts.{CountsRefusals}
+use Rattle.sched_report.specs.Totals.{AreTotals}
+use Rattle.sched_report.specs.Lives.{lives_in}
 use Rattle.sched_report.specs.declared.life.LifeTally.{LifeTally}
 use Rattle.sched_report.specs.ToldLives.{AreLives, MayFollow}
 use Rattle.sched_report.specs.Under.{AreUnder, MayCountUnder}
@@ -24,8 +28,10 @@ pub follow-self-inside-requires-clause-may : goal.follow-self-inside-requires-cl
 follow-self-inside-requires-clause-may c =
     let i = c.self.invariant in
     let k = c.self.inside.config in
+    let p = c.self.inside.passed in
     let h = c.self.inside.auditor.history in
     let e = c.args.entry.now in (
+      p,
       h,
       record {
         lawful = i.lawful;
@@ -36,9 +42,40 @@ follow-self-inside-requires-clause-may c =
           | inr full ↦ absurd (cc (c.in_ok-judge.ensures.full.1 full))
         ];
         next = i.next;
-        lives = c.reserve_for.ensures.same k (lives_of h) i.lives;
+        lives = c.reserve_for.ensures.same k (lives_in p h) i.lives;
         meets = c.as_slice-3.ensures.value ∙ c.in-Ok-met.ensures.met c.in_ok-judge.ensures.step
             ∙ ap (λ (k : Config). met_after k h e.reply) (sym i.config);
+        passed_few = i.passed_few;
+      },
+    )
+
+pub add-requires : goal.add-requires
+add-requires c =
+    let i = c.self.invariant in
+    let k = c.self.inside.config in
+    let p = c.self.inside.passed in
+    let h = c.self.inside.auditor.history in
+    let e = c.args.entry.now in
+    let whole : take p h ++ drop p h ≡ h = take-append-drop p h in
+    let short : length h < MAX_WHOLE_HISTORY =
+    elim (cases_lt (length h) MAX_WHOLE_HISTORY) [
+      | inl below ↦ below
+      | inr full ↦ absurd (cc (c.in_ok-judge.ensures.full.1 full))
+    ] in
+    let at : (fs : List Bool) → fs ≡ c.self.inside.flows.value → TellsUnsolicited fs h = λ fs same.
+    subst (λ (fs : List Bool). TellsUnsolicited fs h) (sym same) i.told in (
+      take p h,
+      drop p h,
+      record {
+        legal = subst (IsLegal k) (sym whole) i.legal;
+        step = subst (λ (es : List Entry). IsStep k es e.call e.reply) (sym whole)
+            (subst (λ (k : Config). IsStep k h e.call e.reply) (sym i.config) c.in_ok-judge.ensures.step);
+        short = omega (arith, short, ap (λ (es : List Entry). length es) whole);
+        counted = i.totals;
+        told = subst (TellsUnsolicited c.deref-2.result.now) (sym whole) (at _ c.deref-2.ensures);
+        meets = c.as_slice.ensures.value ∙ c.in-Ok-met.ensures.met c.in_ok-judge.ensures.step
+            ∙ ap (λ (k : Config). met_after k h e.reply) (sym i.config)
+            ∙ ap (λ (es : List Entry). met_after k es e.reply) (sym whole);
       },
     )
 
@@ -46,9 +83,11 @@ pub count_under-requires-clause-may : goal.count_under-requires-clause-may
 count_under-requires-clause-may c =
     let i = c.self.invariant in
     let k = c.self.inside.config in
+    let p = c.self.inside.passed in
     let h = c.self.inside.auditor.history in
     let e = c.args.entry.now in (
       k,
+      p,
       h,
       record {
         lawful = i.lawful;
@@ -58,11 +97,12 @@ count_under-requires-clause-may c =
           | inl below ↦ below
           | inr full ↦ absurd (cc (c.in_ok-judge.ensures.full.1 full))
         ];
-        lives = subst (λ (ts : List LifeTally). AreLives k ts (lives_of h)) (sym c.deref-3.ensures.value)
-            (c.reserve_for.ensures.same k (lives_of h) i.lives);
-        counts = subst (AreUnder k h) (sym c.reserve_count.ensures.same) i.waited;
+        lives = subst (λ (ts : List LifeTally). AreLives k ts (lives_in p h)) (sym c.deref-3.ensures.value)
+            (c.reserve_for.ensures.same k (lives_in p h) i.lives);
+        counts = subst (AreUnder k p h) (sym c.reserve_count.ensures.same) i.waited;
         waits = c.as_slice-2.ensures.value ∙ c.in-Ok-under.ensures.under c.in_ok-judge.ensures.step
             ∙ ap (λ (k : Config). under_by k h e.reply) (sym i.config);
+        passed_few = i.passed_few;
       },
     )
 
@@ -70,8 +110,14 @@ pub invariant_of-self-2 : goal.invariant_of-self-2
 invariant_of-self-2 c =
     let i = c.self.invariant in
     let k = c.self.inside.config in
+    let p = c.self.inside.passed in
     let h = c.self.inside.auditor.history in
     let e = c.args.entry.now in
+    let front : List Entry = take p h in
+    let rest : List Entry = drop p h in
+    let whole : front ++ rest ≡ h = take-append-drop p h in
+    let front-same : take p (h ++ e ∷ []) ≡ front = take-append-le p h (e ∷ []) i.passed_few in
+    let rest-more : drop p (h ++ e ∷ []) ≡ rest ++ e ∷ [] = drop-append-le p h (e ∷ []) i.passed_few in
     let step : IsStep k h e.call e.reply =
     subst (λ (k : Config). IsStep k h e.call e.reply) (sym i.config) c.in_ok-judge.ensures.step in
     let short : length h < MAX_WHOLE_HISTORY =
@@ -84,36 +130,38 @@ invariant_of-self-2 c =
     let meets : c.in-Ok-met.met.items ≡ met_after k h e.reply =
     c.in-Ok-met.ensures.met c.in_ok-judge.ensures.step
     ∙ ap (λ (k : Config). met_after k h e.reply) (sym i.config) in
-    let counted : IsCounted k h c.self.inside.totals c.deref-2.result.now c.as_slice.result.now e = record {
-      legal = i.legal;
-      step = step;
-      short = short;
+    let counted : IsCounted k front rest c.self.inside.totals c.deref-2.result.now c.as_slice.result.now e = record {
+      legal = subst (IsLegal k) (sym whole) i.legal;
+      step = subst (λ (es : List Entry). IsStep k es e.call e.reply) (sym whole) step;
+      short = omega (arith, short, ap (λ (es : List Entry). length es) whole);
       counted = i.totals;
-      told = at _ c.deref-2.ensures;
-      meets = c.as_slice.ensures.value ∙ meets;
+      told = subst (TellsUnsolicited c.deref-2.result.now) (sym whole) (at _ c.deref-2.ensures);
+      meets = c.as_slice.ensures.value ∙ meets ∙ ap (λ (es : List Entry). met_after k es e.reply) (sym whole);
     } in
-    let follows : MayFollow k h c.reserve_for.new.lives.items c.self.inside.next c.as_slice-3.result.now e = record {
+    let follows : MayFollow k p h c.reserve_for.new.lives.items c.self.inside.next c.as_slice-3.result.now e = record {
       lawful = i.lawful;
       legal = i.legal;
       step = step;
       short = short;
       next = i.next;
-      lives = c.reserve_for.ensures.same k (lives_of h) i.lives;
+      lives = c.reserve_for.ensures.same k (lives_in p h) i.lives;
       meets = c.as_slice-3.ensures.value ∙ meets;
+      passed_few = i.passed_few;
     } in
-    let waits : MayCountUnder k h c.deref-3.result.now c.reserve_count.new.under.items c.as_slice-2.result.now e =
+    let waits : MayCountUnder k p h c.deref-3.result.now c.reserve_count.new.under.items c.as_slice-2.result.now e =
     record {
       lawful = i.lawful;
       legal = i.legal;
       step = step;
       short = short;
-      lives = subst (λ (ts : List LifeTally). AreLives k ts (lives_of h)) (sym c.deref-3.ensures.value)
-          (c.reserve_for.ensures.same k (lives_of h) i.lives);
-      counts = subst (AreUnder k h) (sym c.reserve_count.ensures.same) i.waited;
+      lives = subst (λ (ts : List LifeTally). AreLives k ts (lives_in p h)) (sym c.deref-3.ensures.value)
+          (c.reserve_for.ensures.same k (lives_in p h) i.lives);
+      counts = subst (AreUnder k p h) (sym c.reserve_count.ensures.same) i.waited;
       waits = c.as_slice-2.ensures.value ∙ c.in-Ok-under.ensures.under c.in_ok-judge.ensures.step
           ∙ ap (λ (k : Config). under_by k h e.reply) (sym i.config);
+      passed_few = i.passed_few;
     } in
-    subst (λ (p : Past). IsReport k p c.note.new.flows c.add.new.self c.count_refusal.new.counts
+    subst (λ (past : Past). IsReport k past p c.note.new.flows c.add.new.self c.count_refusal.new.counts
     c.follow-self-inside.result c.follow-self-inside.new.lives.items
     (with_items c.self.inside.places c.follow-self-inside.new.places).items c.count_under.new.under.items)
     (sym c.in_ok-judge.ensures.taken)
@@ -121,16 +169,19 @@ invariant_of-self-2 c =
       config = i.config;
       legal = EachAfter-push (λ before x. IsStep k before x.call x.reply) [] h e i.legal step;
       told = c.note.ensures h (at _ c.deref_mut.ensures.value);
-      totals = c.add.ensures h counted;
-      refused = c.count_refusal.ensures h i.refused;
+      passed_few = omega (arith, i.passed_few, length_push h e);
+      totals = subst (λ (es : List Entry). AreTotals k es (drop p (h ++ e ∷ [])) c.add.new.self) (sym front-same)
+          (subst (λ (es : List Entry). AreTotals k front es c.add.new.self) (sym rest-more)
+          (c.add.ensures front rest counted));
+      refused = subst (CountsRefusals c.count_refusal.new.counts) (sym rest-more) (c.count_refusal.ensures rest i.refused);
       lawful = i.lawful;
-      next = c.follow-self-inside.ensures.next h follows;
-      lives = c.follow-self-inside.ensures.lives h follows;
+      next = c.follow-self-inside.ensures.next p h follows;
+      lives = c.follow-self-inside.ensures.lives p h follows;
       live = subst (λ (places : List ℕ). AreLive places c.follow-self-inside.new.lives.items)
           (sym (with_items_is c.self.inside.places c.follow-self-inside.new.places
           (c.follow-self-inside.auto.places ∙ c.deref_mut-2.ensures.len)))
           c.follow-self-inside.ensures.live;
-      waited = c.count_under.ensures k h waits;
+      waited = c.count_under.ensures k p h waits;
     })
 
 pub invariant_of-self : goal.invariant_of-self
@@ -140,11 +191,12 @@ invariant_of-self c =
       config = i.config;
       legal = i.legal;
       told = i.told;
+      passed_few = i.passed_few;
       totals = i.totals;
       refused = i.refused;
       lawful = i.lawful;
       next = i.next;
-      lives = c.reserve_for.ensures.same c.self.inside.config (lives_of c.self.inside.auditor.history) i.lives;
+      lives = c.reserve_for.ensures.same c.self.inside.config (lives_in c.self.inside.passed c.self.inside.auditor.history) i.lives;
       live = subst (λ (places : List ℕ). AreLive places c.reserve_for.new.lives.items) c.deref.ensures.value
           c.reserve_for.ensures.live;
       waited = i.waited;
@@ -157,11 +209,12 @@ invariant_of-self-in-Err-reserve_count c =
       config = i.config;
       legal = i.legal;
       told = i.told;
+      passed_few = i.passed_few;
       totals = i.totals;
       refused = i.refused;
       lawful = i.lawful;
       next = i.next;
-      lives = c.reserve_for.ensures.same c.self.inside.config (lives_of c.self.inside.auditor.history) i.lives;
+      lives = c.reserve_for.ensures.same c.self.inside.config (lives_in c.self.inside.passed c.self.inside.auditor.history) i.lives;
       live = subst (λ (places : List ℕ). AreLive places c.reserve_for.new.lives.items) c.deref.ensures.value
           c.reserve_for.ensures.live;
       waited = rw (c.reserve_count.ensures.same) i.waited;
@@ -174,11 +227,12 @@ invariant_of-self-in_default-under c =
       config = i.config;
       legal = i.legal;
       told = i.told;
+      passed_few = i.passed_few;
       totals = i.totals;
       refused = i.refused;
       lawful = i.lawful;
       next = i.next;
-      lives = c.reserve_for.ensures.same c.self.inside.config (lives_of c.self.inside.auditor.history) i.lives;
+      lives = c.reserve_for.ensures.same c.self.inside.config (lives_in c.self.inside.passed c.self.inside.auditor.history) i.lives;
       live = subst (λ (places : List ℕ). AreLive places c.reserve_for.new.lives.items) c.deref.ensures.value
           c.reserve_for.ensures.live;
       waited = rw (c.reserve_count.ensures.same) i.waited;
@@ -191,11 +245,12 @@ invariant_of-self-in_default c =
       config = i.config;
       legal = i.legal;
       told = i.told;
+      passed_few = i.passed_few;
       totals = i.totals;
       refused = i.refused;
       lawful = i.lawful;
       next = i.next;
-      lives = c.reserve_for.ensures.same c.self.inside.config (lives_of c.self.inside.auditor.history) i.lives;
+      lives = c.reserve_for.ensures.same c.self.inside.config (lives_in c.self.inside.passed c.self.inside.auditor.history) i.lives;
       live = subst (λ (places : List ℕ). AreLive places c.reserve_for.new.lives.items) c.deref.ensures.value
           c.reserve_for.ensures.live;
       waited = rw (c.reserve_count.ensures.same) i.waited;
@@ -205,18 +260,19 @@ pub invariant_of-self-in_err-judge : goal.invariant_of-self-in_err-judge
 invariant_of-self-in_err-judge c =
     let i = c.self.invariant in
     let s = c.self.inside in
-    subst (λ (p : Past). IsReport s.config p s.flows.value s.totals s.refused s.next c.reserve_for.new.lives.items
+    subst (λ (p : Past). IsReport s.config p s.passed s.flows.value s.totals s.refused s.next c.reserve_for.new.lives.items
     s.places.items c.reserve_count.new.under.items)
     (sym c.in_err-judge.ensures.err)
     (record {
       config = i.config;
       legal = i.legal;
       told = i.told;
+      passed_few = i.passed_few;
       totals = i.totals;
       refused = i.refused;
       lawful = i.lawful;
       next = i.next;
-      lives = c.reserve_for.ensures.same s.config (lives_of s.auditor.history) i.lives;
+      lives = c.reserve_for.ensures.same s.config (lives_in s.passed s.auditor.history) i.lives;
       live = subst (λ (places : List ℕ). AreLive places c.reserve_for.new.lives.items) c.deref.ensures.value
           c.reserve_for.ensures.live;
       waited = rw (c.reserve_count.ensures.same) i.waited;

@@ -1,11 +1,13 @@
--- What is kept is of the history that the auditor took.
-use Rattle.std.proofs.Common.{◌∙◌, ap}
-use Rattle.sched_history.specs.Machine.{Past}
+-- What is kept is of what is told of the history that the auditor took.
+use Rattle.std.proofs.Common.{take, drop, ap, ◌∙◌}
 use Rattle.sched_report.specs.Totals.{totals_of}
+use Rattle.sched_report.specs.Window.{totals_told}
 use Rattle.sched_report.proofs.reporter.Reporter.totals.Goals as goal
 
 pub returns : goal.returns
 returns c =
     let i = c.self.invariant in
-    i.totals.value ∙ ap (λ k. totals_of k c.self.inside.auditor.history) i.config
-    ∙ ap (λ (p : Past). totals_of p.config p.history) c.self.view_is
+    let h = c.self.inside.auditor.history in
+    let p = c.self.inside.passed in
+    i.totals.value ∙ ap (λ k. totals_of k (take p h) (drop p h)) i.config
+    ∙ ap totals_told c.self.view_is
