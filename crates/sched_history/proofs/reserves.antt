@@ -1,6 +1,7 @@
 -- The Reserves of a history, which MAPs meet, and the header of the next MAP.
 pub mod Aging
 pub mod Lapsing
+pub mod Lapsed
 pub mod ReservesAfter
 pub mod HeaderAfter
 pub mod GoodReserves

@@ -123,6 +123,18 @@ abbrev pub met_after : Config → List Entry → Reply → List Met
 met_after c h (replies.Built m) = met_by c h (reserves_of c h) m.wire.elements
 met_after c h reply = []
 
+-- how many Reserves lapse with the MAP of a reply that follows a history: it does not meet them, and is the last that
+-- might have. None where it settles
+abbrev pub lapses_by : Config → List Entry → Reply → ℕ
+lapses_by c h (replies.Built m) = if settles_after c h then 0
+    else count_by is_last (left_by (meets_place (met_after c h (replies.Built m))) (reserves_of c h))
+lapses_by c h reply = 0
+
+-- how many lapse in more entries than these
+abbrev pub lapses_in : Config → List Entry → List Entry → ℕ
+lapses_in c before [] = 0
+lapses_in c before (e ∷ es) = lapses_by c before e.reply + lapses_in c (before ++ e ∷ []) es
+
 -- whether Reserves grow older by a reply that follows a history: it has a MAP that does not settle
 abbrev pub ages_by : Config → List Entry → Reply → Bool
 ages_by c h (replies.Built m) = not (settles_after c h)

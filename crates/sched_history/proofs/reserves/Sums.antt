@@ -84,7 +84,7 @@ meets-one c spots rs before x is = record {
 }
 
 -- what is met at a place is the Reserve that stands there
-met-cons : (rs : List Reserve) (x : Met) (met : List Met) (r : Reserve) → slice_get rs x.place ≡ Some r
+pub met-cons : (rs : List Reserve) (x : Met) (met : List Met) (r : Reserve) → slice_get rs x.place ≡ Some r
     → reserves_met (x ∷ met) rs ≡ r ∷ reserves_met met rs
 met-cons rs x met r is = ap (λ (o : Option Reserve). cons_option o (reserves_met met rs)) is
 

@@ -1,14 +1,16 @@
 //! A history that is judged entry by entry.
 
 ghost use Rattle.std.specs.Prelude.{◌≡◌, ◌<◌, ◌≤◌, ◌↔◌, ◌++◌, ◌∷◌, [], true, false, length};
-ghost use Rattle.std.specs.Prelude.{IfOk, IfErr, OnOk, OnErr, IsErrOf};
+ghost use Rattle.std.specs.Prelude.{ℕ, slice_index, IfOk, IfErr, OnOk, OnErr, IsErrOf};
+ghost use Rattle.sched_calls.specs.declared.call.TheConstants.{MAX_RESERVES};
 ghost use Rattle.sched_calls.specs.declared.reply.TheConstants.{MAX_WHOLE_HISTORY};
 ghost use Rattle.sched_history.specs.Facts.{under_by};
 ghost use Rattle.sched_history.specs.History.{IsStep, IsLegal};
 ghost use Rattle.sched_calls.specs.Reply.{IsEncodable};
 ghost use Rattle.sched_history.specs.Machine.{MayLackMemory};
-ghost use Rattle.sched_history.specs.Reserves.{met_after};
+ghost use Rattle.sched_history.specs.Reserves.{met_after, reserves_of};
 ghost use Rattle.sched_history.specs.State.{IsKeptOf};
+ghost use Rattle.sched_history.specs.Time.{progress_of};
 
 use super::sameness::is_refused;
 use crate::fault::JudgeFault;
@@ -119,6 +121,24 @@ impl Auditor {
             ledger: &self.ledger,
         };
         present.under(self.alloc, entry)
+    }
+
+    /// How many Reserves are open, that is neither met nor lapsed, after the entries that were taken.
+    pub fn open_reserves(&self) -> u64
+        ensures value { result ≡ length (reserves_of self.now.config self.now.history) }
+        ensures most { result ≤ MAX_RESERVES }
+    {
+        self.state.reserves.len() as u64
+    }
+
+    /// The minislot before which each receiver of the configuration has handed in every request that it heard, after the
+    /// entries that were taken. Those behind them say nothing.
+    pub fn progress(&self) -> [u64; 16]
+        ensures { (receiver : ℕ) → receiver < self.now.config.receivers → slice_index result receiver
+            ≡ progress_of self.now.config receiver self.now.history }
+    {
+        let progress = self.state.progress;
+        progress
     }
 
     /// How many entries were taken.

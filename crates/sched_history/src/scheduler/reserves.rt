@@ -103,6 +103,14 @@ impl Reserves {
         self.count >= MAX_RESERVES
     }
 
+    // How many there are.
+    pub(crate) fn len(&self) -> usize
+        ensures value { result ≡ length self.now }
+        ensures most { result ≤ MAX_RESERVES }
+    {
+        self.count
+    }
+
     // One more, behind the others.
     pub(crate) fn add(&mut self, opportunity: Opportunity)
         requires { length self.old < MAX_RESERVES }
