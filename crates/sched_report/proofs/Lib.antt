@@ -3,6 +3,9 @@ pub mod Pushed
 pub mod Frames
 pub mod Called
 pub mod Totalled
+pub mod Runs
+pub mod Extremal
+pub mod Watched
 pub mod Reaching
 pub mod Serving
 pub mod Unserved

@@ -1,5 +1,7 @@
 pub mod Counts
 pub mod Uses
+pub mod Gaps
+pub mod Extremes
 pub mod Totals
 pub mod Counted
 pub mod Delays

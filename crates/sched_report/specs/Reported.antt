@@ -7,6 +7,8 @@ use Rattle.sched_history.specs.Time.{next_after}
 use Rattle.sched_history.specs.Machine.{Past}
 use Rattle.frame_picture.specs.Frames.{TellsUnsolicited}
 use Rattle.sched_report.specs.declared.totals.Totals.{Totals}
+use Rattle.sched_report.specs.declared.extremes.Extremes.{Extremes}
+use Rattle.sched_report.specs.Extremes.{AreExtremes}
 use Rattle.sched_report.specs.Counts.{CountsRefusals}
 use Rattle.sched_report.specs.declared.life.LifeTally.{LifeTally}
 use Rattle.sched_report.specs.Totals.{AreTotals}
@@ -16,13 +18,14 @@ use Rattle.sched_report.specs.ToldLives.{AreLives}
 use Rattle.sched_report.specs.Under.{AreUnder}
 
 -- The numbers are those of the history that the auditor took, behind so many of its entries
-pub record IsReport (c : Config) (past : Past) (passed : ℕ) (flows : List Bool) (t : Totals) (counts : List ℕ)
-    (slot : ℕ) (ts : List LifeTally) (places under : List ℕ) : Type 0 where
+pub record IsReport (c : Config) (past : Past) (passed : ℕ) (flows : List Bool) (t : Totals) (x : Extremes)
+    (counts : List ℕ) (slot : ℕ) (ts : List LifeTally) (places under : List ℕ) : Type 0 where
   pub config : c ≡ past.config
   pub legal : IsLegal c past.history
   pub told : TellsUnsolicited flows past.history
   pub passed_few : passed ≤ length past.history
   pub totals : AreTotals c (take passed past.history) (drop passed past.history) t
+  pub extremes : AreExtremes c (take passed past.history) (drop passed past.history) x
   pub refused : CountsRefusals counts (drop passed past.history)
   pub lawful : IsLawful c
   pub next : slot ≡ next_after c past.history

@@ -4,6 +4,8 @@ use Rattle.minislots.specs.declared.config.Config.{Config}
 use Rattle.sched_calls.specs.declared.reply.Entry.{Entry}
 use Rattle.frame_picture.specs.Frames.{Frame, frames_after}
 use Rattle.sched_report.specs.declared.totals.Totals.{Totals}
+use Rattle.sched_report.specs.declared.extremes.Extremes.{Extremes}
+use Rattle.sched_report.specs.Extremes.{AreExtremes}
 use Rattle.sched_report.specs.Lives.{PastLife, lives_in}
 use Rattle.sched_report.specs.Totals.{totals_of}
 
@@ -28,6 +30,10 @@ frames_told w = frames_after (take w.passed w.history) (entries_of w)
 -- their numbers
 abbrev pub totals_told : Window → Totals
 totals_told w = totals_of w.config (take w.passed w.history) (entries_of w)
+
+-- their extremes
+abbrev pub AreExtremesTold : Window → Extremes → Type 0
+AreExtremesTold w x = AreExtremes w.config (take w.passed w.history) (entries_of w) x
 
 -- all lives of the history, in the order of the admissions, each where what is told of it begins: nothing is told of
 -- those that ended before

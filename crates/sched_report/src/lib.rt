@@ -2,6 +2,9 @@
 #![tactic(auto)]
 
 mod calls;
+mod extremes;
+mod gaps;
+mod lags;
 mod life;
 mod lives;
 mod named;
@@ -17,6 +20,8 @@ mod totals;
 mod under;
 
 pub use calls::Calls;
+pub use extremes::Extremes;
+pub use lags::RECEIVERS;
 pub use life::{LifeNumbers, POLLED};
 pub use ranks::{RankNumbers, RankSums};
 pub use ranks_told::{RANKS, RankTold};

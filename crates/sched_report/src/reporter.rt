@@ -6,12 +6,13 @@ ghost use Rattle.sched_calls.specs.declared.reply.TheConstants.{MAX_WHOLE_HISTOR
 ghost use Rattle.sched_history.specs.History.{IsStep, IsLegal};
 ghost use Rattle.sched_history.specs.Time.{next_after};
 ghost use Rattle.sched_report.specs.Counts.{CountsRefusals};
-ghost use Rattle.sched_report.specs.Window.{whole, entries_of, totals_told, lives_told};
+ghost use Rattle.sched_report.specs.Window.{whole, entries_of, totals_told, AreExtremesTold, lives_told};
 ghost use Rattle.sched_report.specs.Lives.{PastLife, is_told};
 ghost use Rattle.sched_report.specs.Ranks.{lives_of_rank, AreRankNumbers};
 ghost use Rattle.sched_report.specs.ToldLives.{MayLackReportMemory, AreLifeNumbers};
 
 use crate::calls::{REFUSALS, count_refusal};
+use crate::extremes::Extremes;
 use crate::life::{LifeNumbers, LifeTally};
 use crate::lives::{follow, renew_each, reserve_for};
 use crate::ranks::{RankNumbers, numbers_of};
@@ -41,6 +42,7 @@ pub struct Reporter {
     // Which flows are unsolicited after the entries that were taken: on the heap, for the stack's sake.
     flows: Box<Flows>,
     totals: Totals,
+    extremes: Extremes,
     refused: [u64; REFUSALS],
     lives: Vec<LifeTally>,
     // Where the life that goes on under each SID stands, which alone an entry of the SID is shown to.
@@ -65,8 +67,8 @@ impl Model for Reporter {
     } };
 
     ghost invariant = { λ r.
-        IsReport r.config r.auditor r.passed r.flows.value r.totals r.refused r.next r.lives.items
-        r.places.items r.under.items };
+        IsReport r.config r.auditor r.passed r.flows.value r.totals r.extremes r.refused r.next
+        r.lives.items r.places.items r.under.items };
 }
 
 impl Reporter {
@@ -82,6 +84,7 @@ impl Reporter {
             next: config.start(),
             flows: Box::new(alloc, no_flows())?,
             totals: Totals::none(&config),
+            extremes: Extremes::none(),
             refused: [0; REFUSALS],
             lives: Vec::new(alloc),
             places: vec![in alloc; 0; SIDS]?,
@@ -128,9 +131,19 @@ impl Reporter {
         let Ok(sids) = self.auditor.under(entry) else {
             return Err(JudgeFault::Memory);
         };
+        let (progress, reserves) = (self.auditor.progress(), self.auditor.open_reserves());
         self.auditor.judge(entry)?;
         self.totals
             .add(&self.config, &self.flows, met.as_slice(), entry);
+        let left = self.auditor.open_reserves();
+        self.extremes.add(
+            &self.flows,
+            met.as_slice(),
+            &progress,
+            reserves,
+            left,
+            entry,
+        );
         count_refusal(&mut self.refused, entry);
         note(&mut self.flows, entry);
         count_under(
@@ -159,6 +172,7 @@ impl Reporter {
     {
         self.passed = self.auditor.taken();
         self.totals = Totals::none(&self.config);
+        self.extremes = Extremes::none();
         self.refused = [0; REFUSALS];
         renew_each(&mut self.lives, self.next);
         renew_counts(&mut self.under);
@@ -178,6 +192,14 @@ impl Reporter {
     {
         let totals = self.totals;
         totals
+    }
+
+    /// What is least or greatest among the MAPs of the entries that are told of, and how many Reserves lapsed.
+    pub fn extremes(&self) -> Extremes
+        ensures { AreExtremesTold self.now result }
+    {
+        let extremes = self.extremes;
+        extremes
     }
 
     /// How many refusals with each number there are among the entries that are told of: with 1 first, with 23 last.

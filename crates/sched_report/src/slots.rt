@@ -6,6 +6,7 @@ ghost use Rattle.map_drawing.specs.Allocation.{allocations_of, frame_slots};
 ghost use Rattle.frame_picture.specs.Frames.{is_unsolicited_after, TellsUnsolicited};
 ghost use Rattle.sched_report.specs.Uses.{is_unsolicited, use_of, slots_among, all_slots, with_slots};
 ghost use Rattle.sched_report.specs.Uses.{sum_of, AreOfFrame};
+ghost use Rattle.sched_report.specs.Gaps.{is_free};
 
 use frame_picture::{Flows, is_open_idle};
 use map_codec::{Element, iuc};
@@ -58,6 +59,13 @@ impl Use {
         ensures { result ≡ is_unsolicited self }
     {
         matches!(self, Use::Unsolicited)
+    }
+
+    // Whether they are free for what is placed before data: for a data grant, or nobody's.
+    pub(crate) fn is_free(self) -> bool
+        ensures { result ≡ is_free self }
+    {
+        matches!(self, Use::Data | Use::Open | Use::Idle)
     }
 }
 

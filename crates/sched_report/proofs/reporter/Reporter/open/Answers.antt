@@ -10,8 +10,8 @@ invariant_of-result c =
     let none : length c.new-2.result.items ≡ 0 = ap length c.new-2.ensures.items in
     let uncounted : length c.new-3.result.items ≡ 0 = ap length c.new-3.ensures.items in
     subst (λ (p : Past).
-    IsReport c.args.config p 0 c.in_ok-new.field-0.value c.none.result _ c.start.result c.new-2.result.items
-    c.in_ok-vec.field-0.items c.new-3.result.items)
+    IsReport c.args.config p 0 c.in_ok-new.field-0.value c.none.result c.none-2.result _ c.start.result
+    c.new-2.result.items c.in_ok-vec.field-0.items c.new-3.result.items)
     (sym c.in_ok-open.ensures)
     (record {
       config = refl;
@@ -19,6 +19,7 @@ invariant_of-result c =
       told = rw c.in_ok-new.ensures.ok c.no_flows.ensures;
       passed_few = omega arith;
       totals = c.none.ensures [];
+      extremes = c.none-2.ensures c.args.config [];
       refused = record { places = refl; each = λ place below. get_or-replicate 23 place 0 0 below };
       lawful = c.start.ensures.lawful;
       next = omega (arith, c.start.ensures.value);

@@ -5,6 +5,7 @@ use Rattle.std.proofs.lemmas.List.{with_items_is, drop_all, get_or-replicate, le
 use Rattle.sched_calls.specs.declared.reply.Entry.{Entry}
 use Rattle.sched_report.specs.declared.life.LifeTally.{LifeTally}
 use Rattle.sched_report.specs.Counts.{CountsRefusals}
+use Rattle.sched_report.specs.Extremes.{AreExtremes}
 use Rattle.sched_report.specs.Live.{AreLive}
 use Rattle.sched_report.specs.Lives.{lives_of, passing, lives_in}
 use Rattle.sched_report.specs.Reported.{IsReport}
@@ -46,7 +47,8 @@ invariant_of-self c =
           ∙ sym (none-under k h i.legal j life (omega (arith, below, long)));
       few = λ j m below. omega (arith, c.renew_counts.ensures.none j m below);
     } in
-    subst (λ (p : ℕ). IsReport k s.auditor p s.flows.value c.none-self-inside.result _ s.next
+    subst (λ (p : ℕ). IsReport k s.auditor p s.flows.value c.none-self-inside.result
+    c.none-self-inside-2.result _ s.next
     (with_items s.lives c.renew_each.new.lives).items s.places.items (with_items s.under c.renew_counts.new.under).items)
     (sym c.taken-self-inside.ensures.value)
     (record {
@@ -56,6 +58,8 @@ invariant_of-self c =
       passed_few = omega arith;
       totals = subst (λ (es : List Entry). AreTotals k (take n h) es c.none-self-inside.result) (sym none)
           (c.none-self-inside.ensures (take n h));
+      extremes = subst (λ (es : List Entry). AreExtremes k (take n h) es c.none-self-inside-2.result) (sym none)
+          (c.none-self-inside-2.ensures k (take n h));
       refused = subst (CountsRefusals _) (sym none)
           (record { places = refl; each = λ place below. get_or-replicate 23 place 0 0 below });
       lawful = i.lawful;

@@ -11,17 +11,19 @@ use Rattle.sched_history.specs.Facts.{under_by}
 use Rattle.sched_calls.specs.declared.reply.Entry.{Entry}
 use Rattle.sched_history.specs.History.{IsStep, IsLegal}
 use Rattle.sched_history.specs.Machine.{Past}
-use Rattle.sched_history.specs.Reserves.{met_after}
+use Rattle.sched_history.specs.Reserves.{met_after, reserves_of}
 use Rattle.frame_picture.specs.Frames.{TellsUnsolicited}
 use Rattle.sched_report.specs.Counted.{IsCounted}
 use Rattle.sched_report.specs.Reported.{IsReport}
 use Rattle.sched_report.specs.Live.{AreLive}
 use Rattle.sched_report.specs.Counts.{CountsRefusals}
+use Rattle.sched_report.specs.Extremes.{AreExtremes, IsWatched}
 use Rattle.sched_report.specs.Totals.{AreTotals}
 use Rattle.sched_report.specs.Lives.{lives_in}
 use Rattle.sched_report.specs.declared.life.LifeTally.{LifeTally}
 use Rattle.sched_report.specs.ToldLives.{AreLives, MayFollow}
 use Rattle.sched_report.specs.Under.{AreUnder, MayCountUnder}
+use Rattle.sched_report.proofs.Watched.{watched}
 use Rattle.sched_report.proofs.reporter.Reporter.take.Goals as goal
 
 pub follow-self-inside-requires-clause-may : goal.follow-self-inside-requires-clause-may
@@ -43,7 +45,7 @@ follow-self-inside-requires-clause-may c =
         ];
         next = i.next;
         lives = c.reserve_for.ensures.same k (lives_in p h) i.lives;
-        meets = c.as_slice-3.ensures.value ∙ c.in-Ok-met.ensures.met c.in_ok-judge.ensures.step
+        meets = c.as_slice-4.ensures.value ∙ c.in-Ok-met.ensures.met c.in_ok-judge.ensures.step
             ∙ ap (λ (k : Config). met_after k h e.reply) (sym i.config);
         passed_few = i.passed_few;
       },
@@ -79,6 +81,32 @@ add-requires c =
       },
     )
 
+pub add-requires-2 : goal.add-requires-2
+add-requires-2 c =
+    let i = c.self.invariant in
+    let p = c.self.inside.passed in
+    let h = c.self.inside.auditor.history in
+    let e = c.args.entry.now in
+    let short : length h < MAX_WHOLE_HISTORY =
+    elim (cases_lt (length h) MAX_WHOLE_HISTORY) [
+      | inl below ↦ below
+      | inr full ↦ absurd (cc (c.in_ok-judge.ensures.full.1 full))
+    ] in
+    let at : (fs : List Bool) → fs ≡ c.self.inside.flows.value → TellsUnsolicited fs h = λ fs same.
+    subst (λ (fs : List Bool). TellsUnsolicited fs h) (sym same) i.told in (
+      c.self.inside.config,
+      take p h,
+      drop p h,
+      watched c.self.inside.config c.self.inside.auditor.config p h e i.config c.self.inside.extremes
+          c.deref-3.result.now c.as_slice-2.result.now c.progress-progress.result c.open_reserves-reserves.result
+          c.open_reserves-left.result i.lawful i.legal c.in_ok-judge.ensures.step short i.extremes
+          (at _ c.deref-3.ensures)
+          (c.as_slice-2.ensures.value ∙ c.in-Ok-met.ensures.met c.in_ok-judge.ensures.step)
+          c.progress-progress.ensures c.open_reserves-reserves.ensures.value
+          (c.open_reserves-left.ensures.value
+          ∙ ap (λ (past : Past). length (reserves_of past.config past.history)) c.in_ok-judge.ensures.taken),
+    )
+
 pub count_under-requires-clause-may : goal.count_under-requires-clause-may
 count_under-requires-clause-may c =
     let i = c.self.invariant in
@@ -97,10 +125,10 @@ count_under-requires-clause-may c =
           | inl below ↦ below
           | inr full ↦ absurd (cc (c.in_ok-judge.ensures.full.1 full))
         ];
-        lives = subst (λ (ts : List LifeTally). AreLives k ts (lives_in p h)) (sym c.deref-3.ensures.value)
+        lives = subst (λ (ts : List LifeTally). AreLives k ts (lives_in p h)) (sym c.deref-4.ensures.value)
             (c.reserve_for.ensures.same k (lives_in p h) i.lives);
         counts = subst (AreUnder k p h) (sym c.reserve_count.ensures.same) i.waited;
-        waits = c.as_slice-2.ensures.value ∙ c.in-Ok-under.ensures.under c.in_ok-judge.ensures.step
+        waits = c.as_slice-3.ensures.value ∙ c.in-Ok-under.ensures.under c.in_ok-judge.ensures.step
             ∙ ap (λ (k : Config). under_by k h e.reply) (sym i.config);
         passed_few = i.passed_few;
       },
@@ -138,30 +166,41 @@ invariant_of-self-2 c =
       told = subst (TellsUnsolicited c.deref-2.result.now) (sym whole) (at _ c.deref-2.ensures);
       meets = c.as_slice.ensures.value ∙ meets ∙ ap (λ (es : List Entry). met_after k es e.reply) (sym whole);
     } in
-    let follows : MayFollow k p h c.reserve_for.new.lives.items c.self.inside.next c.as_slice-3.result.now e = record {
+    let seen : IsWatched k front rest c.self.inside.extremes c.deref-3.result.now c.as_slice-2.result.now
+    c.progress-progress.result c.open_reserves-reserves.result c.open_reserves-left.result e =
+    watched k c.self.inside.auditor.config p h e i.config c.self.inside.extremes
+    c.deref-3.result.now c.as_slice-2.result.now c.progress-progress.result c.open_reserves-reserves.result
+    c.open_reserves-left.result i.lawful i.legal c.in_ok-judge.ensures.step short i.extremes
+    (at _ c.deref-3.ensures)
+    (c.as_slice-2.ensures.value ∙ c.in-Ok-met.ensures.met c.in_ok-judge.ensures.step)
+    c.progress-progress.ensures c.open_reserves-reserves.ensures.value
+    (c.open_reserves-left.ensures.value
+    ∙ ap (λ (past : Past). length (reserves_of past.config past.history)) c.in_ok-judge.ensures.taken) in
+    let follows : MayFollow k p h c.reserve_for.new.lives.items c.self.inside.next c.as_slice-4.result.now e = record {
       lawful = i.lawful;
       legal = i.legal;
       step = step;
       short = short;
       next = i.next;
       lives = c.reserve_for.ensures.same k (lives_in p h) i.lives;
-      meets = c.as_slice-3.ensures.value ∙ meets;
+      meets = c.as_slice-4.ensures.value ∙ meets;
       passed_few = i.passed_few;
     } in
-    let waits : MayCountUnder k p h c.deref-3.result.now c.reserve_count.new.under.items c.as_slice-2.result.now e =
+    let waits : MayCountUnder k p h c.deref-4.result.now c.reserve_count.new.under.items c.as_slice-3.result.now e =
     record {
       lawful = i.lawful;
       legal = i.legal;
       step = step;
       short = short;
-      lives = subst (λ (ts : List LifeTally). AreLives k ts (lives_in p h)) (sym c.deref-3.ensures.value)
+      lives = subst (λ (ts : List LifeTally). AreLives k ts (lives_in p h)) (sym c.deref-4.ensures.value)
           (c.reserve_for.ensures.same k (lives_in p h) i.lives);
       counts = subst (AreUnder k p h) (sym c.reserve_count.ensures.same) i.waited;
-      waits = c.as_slice-2.ensures.value ∙ c.in-Ok-under.ensures.under c.in_ok-judge.ensures.step
+      waits = c.as_slice-3.ensures.value ∙ c.in-Ok-under.ensures.under c.in_ok-judge.ensures.step
           ∙ ap (λ (k : Config). under_by k h e.reply) (sym i.config);
       passed_few = i.passed_few;
     } in
-    subst (λ (past : Past). IsReport k past p c.note.new.flows c.add.new.self c.count_refusal.new.counts
+    subst (λ (past : Past). IsReport k past p c.note.new.flows c.add.new.self c.add-2.new.self
+    c.count_refusal.new.counts
     c.follow-self-inside.result c.follow-self-inside.new.lives.items
     (with_items c.self.inside.places c.follow-self-inside.new.places).items c.count_under.new.under.items)
     (sym c.in_ok-judge.ensures.taken)
@@ -173,6 +212,9 @@ invariant_of-self-2 c =
       totals = subst (λ (es : List Entry). AreTotals k es (drop p (h ++ e ∷ [])) c.add.new.self) (sym front-same)
           (subst (λ (es : List Entry). AreTotals k front es c.add.new.self) (sym rest-more)
           (c.add.ensures front rest counted));
+      extremes = subst (λ (es : List Entry). AreExtremes k es (drop p (h ++ e ∷ [])) c.add-2.new.self) (sym front-same)
+          (subst (λ (es : List Entry). AreExtremes k front es c.add-2.new.self) (sym rest-more)
+          (c.add-2.ensures k front rest seen));
       refused = subst (CountsRefusals c.count_refusal.new.counts) (sym rest-more) (c.count_refusal.ensures rest i.refused);
       lawful = i.lawful;
       next = c.follow-self-inside.ensures.next p h follows;
@@ -193,6 +235,7 @@ invariant_of-self c =
       told = i.told;
       passed_few = i.passed_few;
       totals = i.totals;
+      extremes = i.extremes;
       refused = i.refused;
       lawful = i.lawful;
       next = i.next;
@@ -211,6 +254,7 @@ invariant_of-self-in-Err-reserve_count c =
       told = i.told;
       passed_few = i.passed_few;
       totals = i.totals;
+      extremes = i.extremes;
       refused = i.refused;
       lawful = i.lawful;
       next = i.next;
@@ -229,6 +273,7 @@ invariant_of-self-in_default-under c =
       told = i.told;
       passed_few = i.passed_few;
       totals = i.totals;
+      extremes = i.extremes;
       refused = i.refused;
       lawful = i.lawful;
       next = i.next;
@@ -247,6 +292,7 @@ invariant_of-self-in_default c =
       told = i.told;
       passed_few = i.passed_few;
       totals = i.totals;
+      extremes = i.extremes;
       refused = i.refused;
       lawful = i.lawful;
       next = i.next;
@@ -260,8 +306,8 @@ pub invariant_of-self-in_err-judge : goal.invariant_of-self-in_err-judge
 invariant_of-self-in_err-judge c =
     let i = c.self.invariant in
     let s = c.self.inside in
-    subst (λ (p : Past). IsReport s.config p s.passed s.flows.value s.totals s.refused s.next c.reserve_for.new.lives.items
-    s.places.items c.reserve_count.new.under.items)
+    subst (λ (p : Past). IsReport s.config p s.passed s.flows.value s.totals s.extremes s.refused s.next
+    c.reserve_for.new.lives.items s.places.items c.reserve_count.new.under.items)
     (sym c.in_err-judge.ensures.err)
     (record {
       config = i.config;
@@ -269,6 +315,7 @@ invariant_of-self-in_err-judge c =
       told = i.told;
       passed_few = i.passed_few;
       totals = i.totals;
+      extremes = i.extremes;
       refused = i.refused;
       lawful = i.lawful;
       next = i.next;

@@ -1,0 +1,82 @@
+-- An entry whose MAP may raise or lower the extremes of what is told of the history before it.
+use Rattle.std.proofs.Common.{◌≡◌, ℕ, ◌+◌, ◌<◌, ◌≤◌, Bool, List, [], ◌∷◌, ◌++◌, length, take, drop, None}
+use Rattle.std.proofs.Common.{refl, sym, ap, subst, arith}
+use Rattle.std.proofs.lemmas.List.{take-append-drop}
+use Rattle.minislots.specs.declared.config.Config.{Config}
+use Rattle.minislots.specs.Config.{IsLawful}
+use Rattle.map_build.specs.declared.met.Met.{Met}
+use Rattle.sched_calls.specs.declared.frame_map.FrameMap.{FrameMap}
+use Rattle.sched_calls.specs.declared.reply.Reply.{Reply}
+use Rattle.sched_calls.specs.declared.reply.Reply.TheVariants as replies
+use Rattle.sched_calls.specs.declared.reply.Entry.{Entry}
+use Rattle.sched_calls.specs.declared.reply.TheConstants.{MAX_WHOLE_HISTORY}
+use Rattle.sched_history.specs.History.{map_by, IsStep, IsLegal, IsNextMap}
+use Rattle.sched_history.specs.Reserves.{met_after, reserves_of, lapses_by}
+use Rattle.sched_history.proofs.reserves.GoodReserves.{reserves_of-few}
+use Rattle.sched_history.proofs.reserves.Lapsed.{reserves-built}
+use Rattle.sched_history.proofs.steps.LegalHistories.{IsNextMap-from_step}
+use Rattle.frame_picture.specs.Frames.{TellsUnsolicited}
+use Rattle.sched_report.specs.declared.extremes.Extremes.{Extremes}
+use Rattle.sched_report.specs.Extremes.{AreExtremes, TellsProgress, IsWatched}
+
+module _ (c k : Config) (p : ℕ) (h : List Entry) (e : Entry) (same : c ≡ k) where
+  abbrev whole : take p h ++ drop p h ≡ h
+  whole = take-append-drop p h
+
+  at_whole : (P : Config → List Entry → Type 0) → P k h → P c (take p h ++ drop p h)
+  at_whole P is = subst (λ (es : List Entry). P c es) (sym whole) (subst (λ (d : Config). P d h) (sym same) is)
+
+  -- what is known of the auditor's history is known of its two parts
+  pub watched : (x : Extremes) (flows : List Bool) (met : List Met) (progress : List ℕ) (reserves left : ℕ)
+      → IsLawful c → IsLegal c h → IsStep k h e.call e.reply → length h < MAX_WHOLE_HISTORY
+      → AreExtremes c (take p h) (drop p h) x → TellsUnsolicited flows h → met ≡ met_after k h e.reply
+      → TellsProgress k h progress → reserves ≡ length (reserves_of k h) → left ≡ length (reserves_of k (h ++ e ∷ []))
+      → IsWatched c (take p h) (drop p h) x flows met progress reserves left e
+  watched x flows met progress reserves left lawful legal step short are told meets heard before after = record {
+    lawful = lawful;
+    legal = subst (IsLegal c) (sym whole) legal;
+    step = at_whole (λ d es. IsStep d es e.call e.reply) step;
+    short = omega (arith, short, ap (λ (es : List Entry). length es) whole);
+    watched = are;
+    told = subst (TellsUnsolicited flows) (sym whole) told;
+    meets = at_whole (λ d es. met ≡ met_after d es e.reply) meets;
+    heard = at_whole (λ d es. TellsProgress d es progress) heard;
+    open_before = at_whole (λ d es. reserves ≡ length (reserves_of d es)) before;
+    open_after = at_whole (λ d es. left ≡ length (reserves_of d (es ++ e ∷ []))) after;
+  }
+
+-- a reply that has no MAP
+pub no_map : (reply : Reply) → ((m : FrameMap) → reply ≡ replies.Built m → ⊥) → map_by reply ≡ None
+no_map (replies.Built m) unbuilt = absurd (unbuilt m refl)
+no_map (replies.Skipped n) unbuilt = refl
+no_map (replies.Admitted placement) unbuilt = refl
+no_map (replies.Changed placement) unbuilt = refl
+no_map replies.Removed unbuilt = refl
+no_map replies.Taken unbuilt = refl
+no_map replies.Noted unbuilt = refl
+no_map replies.Reserved unbuilt = refl
+no_map (replies.Flow asked granted outstanding) unbuilt = refl
+no_map (replies.Refused refusal) unbuilt = refl
+
+module _ (c : Config) (before es : List Entry) (x : Extremes) (flows : List Bool) (met : List Met) (progress : List ℕ)
+    (reserves left : ℕ) (e : Entry) (m : FrameMap)
+    (watched : IsWatched c before es x flows met progress reserves left e) (is : e.reply ≡ replies.Built m) where
+  -- of the Reserves that were open before a MAP, those that are not after it and were not met lapsed
+  pub lapsed_of : reserves ≡ left + length met + lapses_by c (before ++ es) (replies.Built m)
+  lapsed_of = omega (
+    arith,
+    watched.open_before,
+    watched.open_after,
+    ap (λ (ms : List Met). length ms) watched.meets,
+    ap (λ (r : Reply). length (met_after c (before ++ es) r)) is,
+    reserves-built c (before ++ es) m e is,
+  )
+
+  -- no more than may be open
+  pub lapsed_few : lapses_by c (before ++ es) (replies.Built m) ≤ 64
+  lapsed_few = omega (arith, lapsed_of, watched.open_before, reserves_of-few c (before ++ es) watched.legal)
+
+  -- the MAP is the next one
+  pub next_map : IsNextMap c (before ++ es) m
+  next_map = IsNextMap-from_step c (before ++ es) e.call m
+      (subst (λ (r : Reply). IsStep c (before ++ es) e.call r) is watched.step)
