@@ -109,11 +109,14 @@ def is_read_by_others(text):
 
 
 class Wanted:
-    """The samples that the numbers of a report have, where a minislot has so many ticks."""
+    """The samples that the numbers of a report have, those that are told here alone among them, where a minislot has
+    so many ticks."""
 
-    def __init__(self, ticks, told):
+    def __init__(self, ticks, told, alone):
         self.minislot, self.samples = ticks * TICK, {}
         self.channel(told)
+        for sid, count in alone["refused_sids"].items():
+            self.add("sid_refusals_total", count, sid=sid)
         for rank in told["priorities"]:
             self.rank(rank)
         for place, life in enumerate(told["lives"]):

@@ -360,6 +360,22 @@ def calls_of(entries):
     return {name: names.count(name) for name in (*CALLS, *MORE_CALLS) if name in CALLS or name in names}
 
 
+def named_by(call):
+    """The SID that a call names as that of a flow: none of a reserve, whatever it is for."""
+    return call.get("sid") if call["call"] != "reserve" else None
+
+
+def refused_sids(history):
+    """How many refused calls that are told of name each SID that one names."""
+    named = [named_by(entry["call"]) for entry in told_of(history) if entry["reply"]["kind"] == "refused"]
+    return {sid: named.count(sid) for sid in named if sid is not None}
+
+
+def metrics_alone(history):
+    """The numbers that a report tells as metrics alone."""
+    return {"refused_sids": refused_sids(history)}
+
+
 def report(history):
     """The numbers of a history's document."""
     config, entries = history["config"], told_of(history)

@@ -5,7 +5,7 @@ use Rattle.sched_report.specs.declared.life.TheConstants.{POLLED}
 use Rattle.report_writing.specs.declared.metrics.sample.Measure.{Measure}
 use Rattle.report_writing.specs.declared.metrics.sample.Measure.TheVariants.{Bytes, Seconds, Pieces}
 use Rattle.report_writing.specs.declared.metrics.sample.Whose.{Whose}
-use Rattle.report_writing.specs.declared.metrics.sample.Whose.TheVariants.{Call, Use, Refusal, Rank, Life}
+use Rattle.report_writing.specs.declared.metrics.sample.Whose.TheVariants.{Call, Use, Refusal, Sid, Rank, Life}
 
 -- a point and the eight digits behind it of so many hundred millionths
 abbrev pub hundred_millionths_end : ℕ → List ℕ
@@ -52,6 +52,7 @@ unfoldable pub labels_of : Whose → List ℕ
 labels_of (Call name) = label (codes "call") name.now
 labels_of (Use name) = label (codes "use") name.now
 labels_of (Refusal number) = label (codes "number") (decimal number)
+labels_of (Sid sid) = label (codes "sid") (decimal sid)
 labels_of (Rank rank) = label (codes "rank") (rank_value rank)
 labels_of (Life place sid) = label (codes "life") (decimal place) ++ (codes "," ++ label (codes "sid") (decimal sid))
 

@@ -1,4 +1,5 @@
 pub mod Counts
+pub mod RefusedSids
 pub mod Uses
 pub mod Totals
 pub mod Counted
