@@ -119,8 +119,10 @@ class Wanted:
             self.add("sid_refusals_total", count, sid=sid)
         for rank in told["priorities"]:
             self.rank(rank)
-        for place, life in enumerate(told["lives"]):
+        for place, (life, more) in enumerate(zip(told["lives"], alone["lives"], strict=True)):
             self.life(place, life)
+            if more["oldest"] is not None:
+                self.add_time("flow_oldest_request_seconds", more["oldest"], life=place, sid=life["sid"])
 
     def add(self, name, value, **labels):
         self.samples[f"mapsched_{name}", frozenset((key, str(it)) for key, it in labels.items())] = value

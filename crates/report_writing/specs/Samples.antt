@@ -73,6 +73,11 @@ count_sample_or_none name labels (Some n) = count_sample name labels n
 unfoldable pub time_sample : ℕ → List ℕ → List ℕ → ℕ → List ℕ
 time_sample ticks name labels minislots = sample_front name labels ++ (seconds_text ticks minislots ++ codes "\n")
 
+-- it, where there is one
+abbrev pub time_sample_or_none : ℕ → List ℕ → List ℕ → Option ℕ → List ℕ
+time_sample_or_none ticks name labels None = []
+time_sample_or_none ticks name labels (Some minislots) = time_sample ticks name labels minislots
+
 -- a number without labels
 unfoldable pub count_line : List ℕ → ℕ → List ℕ
 count_line name n = name ++ (codes " " ++ (decimal n ++ codes "\n"))

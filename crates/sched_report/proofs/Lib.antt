@@ -6,6 +6,7 @@ pub mod Totalled
 pub mod Reaching
 pub mod Serving
 pub mod Unserved
+pub mod Oldest
 pub mod Steps
 pub mod NearTold
 pub mod Ranked

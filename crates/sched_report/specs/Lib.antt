@@ -11,6 +11,7 @@ pub mod Served
 pub mod Lives
 pub mod UnderIn
 pub mod Said
+pub mod Oldest
 pub mod Ranks
 pub mod RanksTold
 pub mod Told
