@@ -109,15 +109,20 @@ def is_read_by_others(text):
 
 
 class Wanted:
-    """The samples that the numbers of a report have, where a minislot has so many ticks."""
+    """The samples that the numbers of a report have, those that are told here alone among them, where a minislot has
+    so many ticks."""
 
-    def __init__(self, ticks, told):
+    def __init__(self, ticks, told, alone):
         self.minislot, self.samples = ticks * TICK, {}
         self.channel(told)
+        for sid, count in alone["refused_sids"].items():
+            self.add("sid_refusals_total", count, sid=sid)
         for rank in told["priorities"]:
             self.rank(rank)
-        for place, life in enumerate(told["lives"]):
+        for place, (life, more) in enumerate(zip(told["lives"], alone["lives"], strict=True)):
             self.life(place, life)
+            if more["oldest"] is not None:
+                self.add_time("flow_oldest_request_seconds", more["oldest"], life=place, sid=life["sid"])
 
     def add(self, name, value, **labels):
         self.samples[f"mapsched_{name}", frozenset((key, str(it)) for key, it in labels.items())] = value

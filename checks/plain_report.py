@@ -179,7 +179,8 @@ class Request:
     def __init__(self, life, at):
         wanted, later = life.asked_with(at), next((place for place in life.replacements if place > at), None)
         ends = [end for place, end, reached in life.grants if reached >= wanted and (later is None or place < later)]
-        self.delay = ends[0] - life.since[at]["call"]["heard"] if ends else None
+        self.heard = life.since[at]["call"]["heard"]
+        self.delay = ends[0] - self.heard if ends else None
         self.is_replaced = self.delay is None and later is not None
 
 
@@ -295,6 +296,11 @@ class Life:
     def delays(self):
         return [request.delay for request in self.requests if request.delay is not None]
 
+    def oldest(self):
+        """For how many minislots the request that was heard first, of those that wait, has waited."""
+        heard = [request.heard for request in self.requests if request.delay is None and not request.is_replaced]
+        return None if self.ended or not heard else max(self.to_slot - min(heard), 0)
+
     def told(self):
         delays, replaced = self.delays(), sum(1 for request in self.requests if request.is_replaced)
         left = len(self.requests) - len(delays) - replaced
@@ -358,6 +364,23 @@ def calls_of(entries):
     """How many calls there were of each kind, of some kinds where there was one."""
     names = [entry["call"]["call"] for entry in entries]
     return {name: names.count(name) for name in (*CALLS, *MORE_CALLS) if name in CALLS or name in names}
+
+
+def named_by(call):
+    """The SID that a call names as that of a flow: none of a reserve, whatever it is for."""
+    return call.get("sid") if call["call"] != "reserve" else None
+
+
+def refused_sids(history):
+    """How many refused calls that are told of name each SID that one names."""
+    named = [named_by(entry["call"]) for entry in told_of(history) if entry["reply"]["kind"] == "refused"]
+    return {sid: named.count(sid) for sid in named if sid is not None}
+
+
+def metrics_alone(history):
+    """The numbers that a report tells as metrics alone."""
+    return {"refused_sids": refused_sids(history),
+            "lives": [{"oldest": life.oldest()} for life in lives_of(history)]}
 
 
 def report(history):

@@ -8,6 +8,7 @@ pub mod Flows
 pub mod ReservedTable
 pub mod Text
 pub mod Samples
+pub mod RefusedSids
 pub mod RankMetrics
 pub mod LifeMetrics
 pub mod Metrics

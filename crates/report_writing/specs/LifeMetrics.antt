@@ -8,11 +8,12 @@ use Rattle.report_writing.specs.declared.metrics.life.LifeCount.{LifeCount}
 use Rattle.report_writing.specs.declared.metrics.life.LifeCount.TheVariants.{Asked, Granted, Outstanding, Requests}
 use Rattle.report_writing.specs.declared.metrics.life.LifeCount.TheVariants.{Served, Waiting, Dropped, Replaced}
 use Rattle.report_writing.specs.declared.metrics.life.LifeMetric.{LifeMetric}
-use Rattle.report_writing.specs.declared.metrics.life.LifeMetric.TheVariants.{Info, Start, End, Count, Under, Delay}
+use Rattle.report_writing.specs.declared.metrics.life.LifeMetric.TheVariants.{Info, Start, End, Count, Oldest, Under}
+use Rattle.report_writing.specs.declared.metrics.life.LifeMetric.TheVariants.{Delay}
 use Rattle.report_writing.specs.Report.{kind_name, rank_of}
 use Rattle.report_writing.specs.Reserved.{has_reservation, under_of}
 use Rattle.report_writing.specs.Samples.{heading, label, labels_of, count_sample, count_sample_or_none, time_sample}
-use Rattle.report_writing.specs.Samples.{delay_samples}
+use Rattle.report_writing.specs.Samples.{time_sample_or_none, delay_samples}
 
 -- the name of the samples of a count
 abbrev pub life_count_name : LifeCount → List ℕ
@@ -59,6 +60,8 @@ life_samples ticks End place n =
     time_sample ticks (codes "mapsched_flow_end_seconds") (labels_of (Life place n.sid)) n.to
 life_samples ticks (Count count) place n =
     count_sample (life_count_name count) (labels_of (Life place n.sid)) (life_count count n)
+life_samples ticks Oldest place n =
+    time_sample_or_none ticks (codes "mapsched_flow_oldest_request_seconds") (labels_of (Life place n.sid)) n.oldest
 life_samples ticks Under place n =
     count_sample_or_none (codes "mapsched_flow_under_reservation_frames_total") (labels_of (Life place n.sid))
     (under_of n)
@@ -109,6 +112,13 @@ life_request_metrics ticks lives =
     ++ (heading (codes "mapsched_flow_waiting_requests") (codes "gauge") Pieces (codes "Requests that wait.")
     ++ lives_samples ticks (Count Waiting) lives))))
 
+-- for how long the first of those that wait has waited
+unfoldable pub life_oldest_metrics : ℕ → List LifeNumbers → List ℕ
+life_oldest_metrics ticks lives =
+    heading (codes "mapsched_flow_oldest_request_seconds") (codes "gauge") Seconds
+    (codes "Time from where the first request that waits was heard to the start of the next frame.")
+    ++ lives_samples ticks Oldest lives
+
 -- those that will never be served
 unfoldable pub life_lost_metrics : ℕ → List LifeNumbers → List ℕ
 life_lost_metrics ticks lives =
@@ -139,4 +149,5 @@ life_delay_metrics ticks lives =
 unfoldable pub lives_metrics : ℕ → List LifeNumbers → List ℕ
 lives_metrics ticks lives =
     life_span_metrics ticks lives ++ (life_byte_metrics ticks lives ++ (life_request_metrics ticks lives
-    ++ (life_lost_metrics ticks lives ++ (life_under_metrics ticks lives ++ life_delay_metrics ticks lives))))
+    ++ (life_oldest_metrics ticks lives ++ (life_lost_metrics ticks lives ++ (life_under_metrics ticks lives
+    ++ life_delay_metrics ticks lives)))))

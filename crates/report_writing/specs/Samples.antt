@@ -5,7 +5,7 @@ use Rattle.sched_report.specs.declared.life.TheConstants.{POLLED}
 use Rattle.report_writing.specs.declared.metrics.sample.Measure.{Measure}
 use Rattle.report_writing.specs.declared.metrics.sample.Measure.TheVariants.{Bytes, Seconds, Pieces}
 use Rattle.report_writing.specs.declared.metrics.sample.Whose.{Whose}
-use Rattle.report_writing.specs.declared.metrics.sample.Whose.TheVariants.{Call, Use, Refusal, Rank, Life}
+use Rattle.report_writing.specs.declared.metrics.sample.Whose.TheVariants.{Call, Use, Refusal, Sid, Rank, Life}
 
 -- a point and the eight digits behind it of so many hundred millionths
 abbrev pub hundred_millionths_end : ℕ → List ℕ
@@ -52,6 +52,7 @@ unfoldable pub labels_of : Whose → List ℕ
 labels_of (Call name) = label (codes "call") name.now
 labels_of (Use name) = label (codes "use") name.now
 labels_of (Refusal number) = label (codes "number") (decimal number)
+labels_of (Sid sid) = label (codes "sid") (decimal sid)
 labels_of (Rank rank) = label (codes "rank") (rank_value rank)
 labels_of (Life place sid) = label (codes "life") (decimal place) ++ (codes "," ++ label (codes "sid") (decimal sid))
 
@@ -71,6 +72,11 @@ count_sample_or_none name labels (Some n) = count_sample name labels n
 -- the time of so many minislots with labels
 unfoldable pub time_sample : ℕ → List ℕ → List ℕ → ℕ → List ℕ
 time_sample ticks name labels minislots = sample_front name labels ++ (seconds_text ticks minislots ++ codes "\n")
+
+-- it, where there is one
+abbrev pub time_sample_or_none : ℕ → List ℕ → List ℕ → Option ℕ → List ℕ
+time_sample_or_none ticks name labels None = []
+time_sample_or_none ticks name labels (Some minislots) = time_sample ticks name labels minislots
 
 -- a number without labels
 unfoldable pub count_line : List ℕ → ℕ → List ℕ

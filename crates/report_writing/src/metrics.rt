@@ -9,6 +9,7 @@ mod delays;
 mod life;
 mod lives;
 mod ranks;
+mod refused_sids;
 mod sample;
 
 use crate::gathered::{lives_told, ranks_told};
@@ -17,6 +18,7 @@ use channel::{push_frames, push_reach, push_refusals, push_use};
 use lives::push_lives_metrics;
 use minislots::Checked;
 use ranks::push_ranks_metrics;
+use refused_sids::push_refused_sids;
 use sched_report::{Reporter, Totals};
 use std::alloc::{AllocError, Global};
 
@@ -55,6 +57,7 @@ pub fn metrics_text(
     let totals = reporter.totals();
     let mut words = Vec::new(alloc);
     push_channel(&mut words, ticks, &totals, reporter.refused())?;
+    push_refused_sids(&mut words, reporter.refused_sids())?;
     push_ranks_metrics(&mut words, ticks, &ranks)?;
     push_lives_metrics(&mut words, ticks, &lives)?;
     words.extend_from_slice(b"# EOF\n")?;

@@ -9,6 +9,7 @@ pub mod Watched
 pub mod Reaching
 pub mod Serving
 pub mod Unserved
+pub mod Oldest
 pub mod Steps
 pub mod NearTold
 pub mod Ranked

@@ -67,38 +67,44 @@ module _ (c : Config) where
         length-option (delay_of c m) (delays_of c ms),
       )
 
-  -- of those that are settled none is neither
+  -- one that is settled is not neither
+  pub settled-over : (grants : List Grant) (m : Claim) → IsSettled grants m → unserved m ≡ false
+  settled-over grants m settled = elim settled [
+    | inl superseded ↦ ap (λ b. not b && is_none (delay_of c m)) superseded
+    | inr served ↦
+        ap (λ b. not b && is_none (delay_of c m)) served.stays
+        ∙ none_mapped (delay_until c m.heard) (reaching m.upto m.grants)
+        ∙ reaching-some m.upto m.grants served.some (omega (arith, served.within, ap bytes_of served.sees))
+  ]
+
+  -- so none of them is
   pub unserved-settled : (grants : List Grant) (ms : List Claim) → AllByRecursion (IsSettled grants) ms
       → unserved_of c ms ≡ 0
   unserved-settled grants [] settled = refl
   unserved-settled grants (m ∷ ms) settled =
-      let over : unserved m ≡ false =
-      elim settled.0 [
-        | inl superseded ↦ ap (λ b. not b && is_none (delay_of c m)) superseded
-        | inr served ↦
-            ap (λ b. not b && is_none (delay_of c m)) served.stays
-            ∙ none_mapped (delay_until c m.heard) (reaching m.upto m.grants)
-            ∙ reaching-some m.upto m.grants served.some (omega (arith, served.within, ap bytes_of served.sees))
-      ] in
       omega (
         arith,
         counted unserved m ms,
-        ap {B = ℕ} (λ (b : Bool). cond b 1 0) over,
+        ap {B = ℕ} (λ (b : Bool). cond b 1 0) (settled-over grants m settled.0),
         unserved-settled grants ms settled.1,
       )
 
-  -- all of those that wait are
+  -- one that waits is neither
+  pub waiting-unserved : (grants : List Grant) (w : Waiting) → bytes_of grants < w.upto
+      → unserved (waits_with grants w) ≡ true
+  waiting-unserved grants w unreached =
+      none_mapped (delay_until c w.heard) (reaching w.upto grants)
+      ∙ ap is_none (reaching-none w.upto grants unreached)
+
+  -- so all of them are
   pub unserved-waiting : (grants : List Grant) (ws : List Waiting) → AreUnreached (bytes_of grants) ws
       → unserved_of c (map (waits_with grants) ws) ≡ length ws
   unserved-waiting grants [] unreached = refl
   unserved-waiting grants (w ∷ ws) unreached =
-      let waits : unserved (waits_with grants w) ≡ true =
-      none_mapped (delay_until c w.heard) (reaching w.upto grants)
-      ∙ ap is_none (reaching-none w.upto grants unreached.0) in
       omega (
         arith,
         counted unserved (waits_with grants w) (map (waits_with grants) ws),
-        ap {B = ℕ} (λ (b : Bool). cond b 1 0) waits,
+        ap {B = ℕ} (λ (b : Bool). cond b 1 0) (waiting-unserved grants w unreached.0),
         unserved-waiting grants ws unreached.1,
       )
 

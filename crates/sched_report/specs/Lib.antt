@@ -1,4 +1,5 @@
 pub mod Counts
+pub mod RefusedSids
 pub mod Uses
 pub mod Gaps
 pub mod Extremes
@@ -12,6 +13,7 @@ pub mod Served
 pub mod Lives
 pub mod UnderIn
 pub mod Said
+pub mod Oldest
 pub mod Ranks
 pub mod RanksTold
 pub mod Told

@@ -10,6 +10,7 @@ use Rattle.sched_report.specs.declared.totals.Totals.{Totals}
 use Rattle.sched_report.specs.declared.extremes.Extremes.{Extremes}
 use Rattle.sched_report.specs.Extremes.{AreExtremes}
 use Rattle.sched_report.specs.Counts.{CountsRefusals}
+use Rattle.sched_report.specs.RefusedSids.{CountsRefusedSids}
 use Rattle.sched_report.specs.declared.life.LifeTally.{LifeTally}
 use Rattle.sched_report.specs.Totals.{AreTotals}
 use Rattle.sched_report.specs.Live.{AreLive}
@@ -19,7 +20,7 @@ use Rattle.sched_report.specs.Under.{AreUnder}
 
 -- The numbers are those of the history that the auditor took, behind so many of its entries
 pub record IsReport (c : Config) (past : Past) (passed : ℕ) (flows : List Bool) (t : Totals) (x : Extremes)
-    (counts : List ℕ) (slot : ℕ) (ts : List LifeTally) (places under : List ℕ) : Type 0 where
+    (counts : List ℕ) (slot : ℕ) (ts : List LifeTally) (places under by_sid : List ℕ) : Type 0 where
   pub config : c ≡ past.config
   pub legal : IsLegal c past.history
   pub told : TellsUnsolicited flows past.history
@@ -32,3 +33,4 @@ pub record IsReport (c : Config) (past : Past) (passed : ℕ) (flows : List Bool
   pub lives : AreLives c ts (lives_in passed past.history)
   pub live : AreLive places ts
   pub waited : AreUnder c passed past.history under
+  pub sids : CountsRefusedSids by_sid (drop passed past.history)

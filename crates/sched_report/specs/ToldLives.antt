@@ -22,6 +22,7 @@ use Rattle.sched_report.specs.Spread.{TellsPercentile}
 use Rattle.sched_report.specs.Said.{claims_of, delays_in, priority_of, granted_in, carried_in, asked_since, grants_in}
 use Rattle.sched_report.specs.Said.{outstanding_in}
 use Rattle.sched_report.specs.Said.{waiting_in, dropped_in}
+use Rattle.sched_report.specs.Oldest.{oldest_in}
 use Rattle.sched_report.specs.Told.{IsLifeOf, MayNote, Meets}
 use Rattle.sched_report.specs.UnderIn.{under_in}
 
@@ -67,8 +68,8 @@ pub record MayFollow (c : Config) (passed : ℕ) (h : List Entry) (ts : List Lif
 
 -- These are the numbers of a life: where the next frame started at its admission or where what is told begins, and where
 -- it started at its end or starts now, whether it ended, what was outstanding when that began, what it asked and was
--- granted, its requests that were not served, the delays that 50 and 99 in a hundred of those that were served do not
--- exceed, and how often it waited under its reservation
+-- granted, its requests that were not served, for how long the first of those that wait has waited, the delays that 50
+-- and 99 in a hundred of those that were served do not exceed, and how often it waited under its reservation
 pub record AreLifeNumbers (c : Config) (n : LifeNumbers) (life : PastLife) : Type 0 where
   pub sid : n.sid ≡ life.sid
   pub spec : n.spec ≡ spec_of life
@@ -82,6 +83,7 @@ pub record AreLifeNumbers (c : Config) (n : LifeNumbers) (life : PastLife) : Typ
   pub outstanding : n.outstanding ≡ outstanding_in c life
   pub waiting : n.waiting ≡ waiting_in c life
   pub dropped : n.dropped ≡ dropped_in c life
+  pub oldest : n.oldest ≡ oldest_in c life
   pub middle : TellsPercentile 50 (delays_in c life) n.middle
   pub p99 : TellsPercentile 99 (delays_in c life) n.p99
   pub under : n.under ≡ under_in c life

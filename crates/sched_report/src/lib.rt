@@ -11,6 +11,7 @@ mod named;
 mod percentiles;
 mod ranks;
 mod ranks_told;
+mod refused_sids;
 mod reporter;
 mod requests;
 mod service;

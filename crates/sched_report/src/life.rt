@@ -17,6 +17,7 @@ ghost use Rattle.sched_report.specs.Requests.{request_by};
 ghost use Rattle.sched_report.specs.Ranks.{is_of_rank, is_chosen};
 ghost use Rattle.sched_report.specs.Said.{claims_of, delays_in, priority_of, granted_in, waiting_in, dropped_in};
 ghost use Rattle.sched_report.specs.Said.{asked_since, grants_in};
+ghost use Rattle.sched_report.specs.Oldest.{oldest_in};
 ghost use Rattle.sched_report.specs.Named.{HasNoMap};
 ghost use Rattle.sched_report.specs.Granted.{HasMore};
 ghost use Rattle.sched_report.specs.Steps.{CountsUpto};
@@ -69,6 +70,9 @@ pub struct LifeNumbers {
     pub waiting: u64,
     /// The requests that waited when the life ended.
     pub dropped: u64,
+    /// For how many minislots the first of those that wait has waited: from where it was heard to where the next frame
+    /// starts, and 0 where it was heard later. None where none waits.
+    pub oldest: Option<u64>,
     /// The delay that 50 in a hundred of the requests that were served do not exceed: up to [`EXACT`](crate::EXACT)
     /// minislots exactly, and above that at most one part in a hundred too much.
     pub middle: Option<u64>,
@@ -175,6 +179,7 @@ impl LifeTally {
             outstanding: sums.asked - sums.granted,
             waiting: self.waiting(),
             dropped: self.dropped(),
+            oldest: self.oldest(next),
             middle: percentile(one, None, 50, served, sums.delays.greatest),
             p99: percentile(one, None, 99, served, sums.delays.greatest),
             under,
@@ -257,6 +262,21 @@ impl LifeTally {
         match self.to {
             Some(_) => self.service.unserved(),
             None => 0,
+        }
+    }
+
+    // For how many minislots the first request that waits has waited, where the next frame starts there.
+    pub(crate) fn oldest(&self, next: u64) -> Option<u64>
+        ensures { (c : Config) (life : PastLife) → IsLifeOf c self.now life
+            → (life.ended ≡ false → next ≡ next_after c (life.upto ++ life.since))
+            → result ≡ oldest_in c life }
+    {
+        match self.to {
+            Some(_) => None,
+            None => match self.service.first_heard() {
+                Some(heard) => Some(next.saturating_sub(heard)),
+                None => None,
+            },
         }
     }
 

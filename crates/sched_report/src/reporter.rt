@@ -6,6 +6,7 @@ ghost use Rattle.sched_calls.specs.declared.reply.TheConstants.{MAX_WHOLE_HISTOR
 ghost use Rattle.sched_history.specs.History.{IsStep, IsLegal};
 ghost use Rattle.sched_history.specs.Time.{next_after};
 ghost use Rattle.sched_report.specs.Counts.{CountsRefusals};
+ghost use Rattle.sched_report.specs.RefusedSids.{CountsRefusedSids};
 ghost use Rattle.sched_report.specs.Window.{whole, entries_of, totals_told, AreExtremesTold, lives_told};
 ghost use Rattle.sched_report.specs.Lives.{PastLife, is_told};
 ghost use Rattle.sched_report.specs.Ranks.{lives_of_rank, AreRankNumbers};
@@ -16,6 +17,7 @@ use crate::extremes::Extremes;
 use crate::life::{LifeNumbers, LifeTally};
 use crate::lives::{follow, renew_each, reserve_for};
 use crate::ranks::{RankNumbers, numbers_of};
+use crate::refused_sids::count_refused_sid;
 use crate::totals::Totals;
 use crate::under::{count_under, renew_counts, reserve_count};
 use frame_picture::{Flows, no_flows, note};
@@ -29,7 +31,7 @@ const SIDS: usize = 65536;
 
 /// Takes a history entry by entry, and tells its numbers. Each entry is judged as by an [`Auditor`], and is counted
 /// where its reply may follow those before it. No entry is kept, so however many are taken, the memory is that of the
-/// auditor, of a table of all SIDs, of the flows that lived and of the requests that wait. Contracts see the
+/// auditor, of two tables of all SIDs, of the flows that lived and of the requests that wait. Contracts see the
 /// configuration and the entries that were taken, which are legal, and how many of them came before what is told: from
 /// [`Reporter::renew`] on it tells of what follows alone.
 #[derive(Drop)]
@@ -49,6 +51,8 @@ pub struct Reporter {
     places: Vec<usize>,
     // How often each life waited under its minimum reserved rate, at the places of the lives.
     under: Vec<u64>,
+    // How many refused calls name each SID.
+    refused_sids: Vec<u64>,
     // How many entries came before what is told.
     passed: u64,
 }
@@ -68,7 +72,7 @@ impl Model for Reporter {
 
     ghost invariant = { λ r.
         IsReport r.config r.auditor r.passed r.flows.value r.totals r.extremes r.refused r.next
-        r.lives.items r.places.items r.under.items };
+        r.lives.items r.places.items r.under.items r.refused_sids.items };
 }
 
 impl Reporter {
@@ -89,6 +93,7 @@ impl Reporter {
             lives: Vec::new(alloc),
             places: vec![in alloc; 0; SIDS]?,
             under: Vec::new(alloc),
+            refused_sids: vec![in alloc; 0; SIDS]?,
             passed: 0,
         })
     }
@@ -162,6 +167,7 @@ impl Reporter {
             met.as_slice(),
             entry,
         );
+        count_refused_sid(&mut self.refused_sids, entry);
         Ok(())
     }
 
@@ -176,6 +182,7 @@ impl Reporter {
         self.refused = [0; REFUSALS];
         renew_each(&mut self.lives, self.next);
         renew_counts(&mut self.under);
+        renew_counts(&mut self.refused_sids);
     }
 
     /// Where the next frame starts after the entries that were taken.
@@ -207,6 +214,14 @@ impl Reporter {
         ensures { CountsRefusals result.now (entries_of self.now) }
     {
         &self.refused
+    }
+
+    /// How many refused calls among the entries that are told of name each SID as that of a flow, whether one lives
+    /// under it or not: SID 0 first, 65535 last. A reserve names none, whatever its usage.
+    pub fn refused_sids(&self) -> &[u64]
+        ensures { CountsRefusedSids result.now (entries_of self.now) }
+    {
+        self.refused_sids.as_slice()
     }
 
     /// How many lives of flows the entries that were taken have, those that ended among them.

@@ -9,7 +9,8 @@ ghost use Rattle.minislots.specs.Config.{IsLawful};
 ghost use Rattle.minislots.specs.Units.{slots_for};
 ghost use Rattle.flow_book.specs.declared.flow.Grant.{Grant as DataGrant};
 ghost use Rattle.flow_book.specs.Flows.{bytes_of};
-ghost use Rattle.sched_report.specs.Delays.{Claim, delays_of, AreDelays, AreSums, unserved_of};
+ghost use Rattle.sched_report.specs.Delays.{Claim, delays_of, AreDelays, AreSums, unserved_of, least_of};
+ghost use Rattle.sched_report.specs.Oldest.{first_heard};
 ghost use Rattle.sched_report.specs.Steps.{CountsUpto};
 ghost use Rattle.sched_report.specs.Served.{IsServiceOf, HasRoom, MayAsk, MayGrant, IsWaitingBehind, IsReachedFirst};
 ghost use Rattle.sched_report.specs.Served.{waits_with, with_grants, as_superseded};
@@ -261,6 +262,14 @@ impl Service {
         self.waiting.len() as u64
     }
 
+    /// The minislot at which the first of those was heard, where there is one.
+    pub fn first_heard(&self) -> Option<u64>
+        ensures { (c : Config) (claims : List Claim) (bytes : ℕ) (grants : List DataGrant)
+            → IsServiceOf c self.now claims bytes grants → result ≡ first_heard c claims }
+    {
+        first_of(&self.waiting)
+    }
+
     // Takes out the first request that waits, where the granted bytes reach it.
     fn next_served(&mut self) -> Option<Waiting>
         ensures same { self.new ≡ record self.old { waiting = self.new.waiting } }
@@ -290,6 +299,17 @@ impl Service {
             None => false,
         }
     }
+}
+
+// The minislot at which the first of some requests was heard, where there is one.
+fn first_of(waiting: &VecDeque<Waiting>) -> Option<u64>
+    ensures { result ≡ least_of (map (λ w. w.heard) waiting.now.items) }
+{
+    let mut first = None;
+    for place in 0..waiting.len() {
+        first = Some(least_with(first, waiting[place].heard));
+    }
+    first
 }
 
 // The minislot at which a data grant ends.

@@ -2,7 +2,7 @@
 
 ghost use Rattle.std.specs.Prelude.{◌≡◌, ◌++◌, codes, OnOk};
 ghost use Rattle.report_writing.specs.Report.{kind_name, rank_of};
-ghost use Rattle.report_writing.specs.Samples.{label, labels_of, count_sample_or_none};
+ghost use Rattle.report_writing.specs.Samples.{label, labels_of, count_sample_or_none, time_sample_or_none};
 ghost use Rattle.report_writing.specs.LifeMetrics.{life_count_name, life_count, rank_label_of, life_labels};
 ghost use Rattle.report_writing.specs.LifeMetrics.{life_info, life_samples};
 
@@ -34,6 +34,7 @@ pub(crate) enum LifeMetric {
     Start,
     End,
     Count(LifeCount),
+    Oldest,
     Under,
     Delay,
 }
@@ -127,6 +128,23 @@ fn push_count_or_none(
     }
 }
 
+// The sample of a time, where there is one.
+fn push_time_or_none(
+    words: &mut Vec<u8>,
+    ticks: u32,
+    name: &[u8],
+    whose: Whose,
+    minislots: Option<u64>,
+) -> Result<(), AllocError>
+    ensures { OnOk result (words.new.items
+        ≡ words.old.items ++ time_sample_or_none ticks name.now (labels_of whose) minislots) }
+{
+    let Some(minislots) = minislots else {
+        return Ok(());
+    };
+    push_time_sample(words, ticks, name, whose, minislots)
+}
+
 // The samples of a metric of the life at a place.
 #[tactic(auto, unfolding(crate::specs::LifeMetrics::life_samples))]
 pub(crate) fn push_life(
@@ -143,19 +161,18 @@ pub(crate) fn push_life(
     match metric {
         LifeMetric::Info => push_info(words, place, life),
         LifeMetric::Start => {
-            push_time_sample(
-                words,
-                ticks,
-                b"mapsched_flow_start_seconds",
-                whose,
-                life.from,
-            )
+            let name = b"mapsched_flow_start_seconds";
+            push_time_sample(words, ticks, name, whose, life.from)
         }
         LifeMetric::End => {
             push_time_sample(words, ticks, b"mapsched_flow_end_seconds", whose, life.to)
         }
         LifeMetric::Count(count) => {
             push_count_sample(words, name_of(count), whose, count_of(count, life))
+        }
+        LifeMetric::Oldest => {
+            let name = b"mapsched_flow_oldest_request_seconds";
+            push_time_or_none(words, ticks, name, whose, life.oldest)
         }
         LifeMetric::Under => {
             let name = b"mapsched_flow_under_reservation_frames_total";

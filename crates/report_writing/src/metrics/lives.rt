@@ -3,7 +3,7 @@
 ghost use Rattle.std.specs.Prelude.{◌≡◌, ◌++◌, OnOk};
 ghost use Rattle.report_writing.specs.LifeMetrics.{lives_samples, life_span_metrics, life_byte_metrics};
 ghost use Rattle.report_writing.specs.LifeMetrics.{life_request_metrics, life_lost_metrics, life_delay_metrics};
-ghost use Rattle.report_writing.specs.LifeMetrics.{life_under_metrics, lives_metrics};
+ghost use Rattle.report_writing.specs.LifeMetrics.{life_oldest_metrics, life_under_metrics, lives_metrics};
 
 use crate::metrics::life::{LifeCount, LifeMetric, push_life};
 use crate::metrics::sample::{Measure, push_heading};
@@ -128,6 +128,22 @@ fn push_requests(words: &mut Vec<u8>, ticks: u32, lives: &[LifeNumbers]) -> Resu
     push_samples(words, ticks, LifeMetric::Count(LifeCount::Waiting), lives)
 }
 
+// For how long the first of those that wait has waited.
+#[tactic(auto, unfolding(crate::specs::LifeMetrics::life_oldest_metrics))]
+fn push_oldest(words: &mut Vec<u8>, ticks: u32, lives: &[LifeNumbers]) -> Result<(), AllocError>
+    ensures { OnOk result (words.new.items
+        ≡ words.old.items ++ life_oldest_metrics ticks lives.now) }
+{
+    push_heading(
+        words,
+        b"mapsched_flow_oldest_request_seconds",
+        b"gauge",
+        Measure::Seconds,
+        b"Time from where the first request that waits was heard to the start of the next frame.",
+    )?;
+    push_samples(words, ticks, LifeMetric::Oldest, lives)
+}
+
 // Those that will never be served.
 #[tactic(auto, unfolding(crate::specs::LifeMetrics::life_lost_metrics))]
 fn push_lost(words: &mut Vec<u8>, ticks: u32, lives: &[LifeNumbers]) -> Result<(), AllocError>
@@ -203,6 +219,7 @@ pub(crate) fn push_lives_metrics(
     push_spans(words, ticks, lives)?;
     push_bytes(words, ticks, lives)?;
     push_requests(words, ticks, lives)?;
+    push_oldest(words, ticks, lives)?;
     push_lost(words, ticks, lives)?;
     push_under(words, ticks, lives)?;
     push_delay_metrics(words, ticks, lives)

@@ -28,6 +28,8 @@ pub(crate) enum Whose {
     Use(&'static [u8]),
     // Refusals with this number.
     Refusal(u64),
+    // Refused calls that name this SID.
+    Sid(u64),
     // The flows of this rank.
     Rank(u8),
     // The life at this place in the order of the admissions, counted from 0, under this SID.
@@ -179,6 +181,7 @@ pub(crate) fn push_labels(words: &mut Vec<u8>, whose: Whose) -> Result<(), Alloc
         Whose::Call(name) => push_label(words, b"call", name),
         Whose::Use(name) => push_label(words, b"use", name),
         Whose::Refusal(number) => push_number_label(words, b"number", number),
+        Whose::Sid(sid) => push_number_label(words, b"sid", sid),
         Whose::Rank(rank) => push_rank_label(words, rank),
         Whose::Life(place, sid) => push_life_labels(words, place, sid),
     }

@@ -1,6 +1,7 @@
 -- The metrics, one part behind another.
 use Rattle.std.proofs.Common.{◌≡◌, ◌++◌, ℕ, Ok, codes, ap, ◌∙◌, refl}
 use Rattle.minislots.specs.declared.config.Config.{Config}
+use Rattle.report_writing.specs.RefusedSids.{refused_sids_metrics}
 use Rattle.report_writing.specs.RankMetrics.{ranks_metrics}
 use Rattle.report_writing.specs.LifeMetrics.{lives_metrics}
 use Rattle.report_writing.specs.Metrics.{channel_metrics, metrics_text}
@@ -13,21 +14,26 @@ returns c =
     let ticks = c.ticks-ticks.result in
     let start = c.new-words.result.items in
     let first = c.push_channel.new.words.items in
-    let second = c.push_ranks_metrics.new.words.items in
-    let third = c.push_lives_metrics.new.words.items in
+    let second = c.push_refused_sids.new.words.items in
+    let third = c.push_ranks_metrics.new.words.items in
+    let fourth = c.push_lives_metrics.new.words.items in
     let end = c.extend_from_slice.new.self.items in
     let channel = channel_metrics ticks c.totals-totals.result c.refused.result.now in
+    let sids = refused_sids_metrics c.refused_sids.result.now in
     let ranks = ranks_metrics ticks c.deref.result.now in
     let lives = lives_metrics ticks c.deref-2.result.now in
     let last = codes "# EOF\n" in
-    let whole : end ≡ start ++ (channel ++ (ranks ++ (lives ++ last))) =
-    then_ok {E = ℕ} (Ok tt) start first end channel (ranks ++ (lives ++ last)) c.in_ok-push_channel.ensures
-    (then_ok {E = ℕ} (Ok tt) first second end ranks (lives ++ last) c.in_ok-push_ranks_metrics.ensures
-    (then_ok {E = ℕ} (Ok tt) second third end lives last c.in_ok-push_lives_metrics.ensures
-    c.in_ok-extend_from_slice.ensures.items)) in
+    let whole : end ≡ start ++ (channel ++ (sids ++ (ranks ++ (lives ++ last)))) =
+    then_ok {E = ℕ} (Ok tt) start first end channel (sids ++ (ranks ++ (lives ++ last))) c.in_ok-push_channel.ensures
+    (then_ok {E = ℕ} (Ok tt) first second end sids (ranks ++ (lives ++ last)) c.in_ok-push_refused_sids.ensures
+    (then_ok {E = ℕ} (Ok tt) second third end ranks (lives ++ last) c.in_ok-push_ranks_metrics.ensures
+    (then_ok {E = ℕ} (Ok tt) third fourth end lives last c.in_ok-push_lives_metrics.ensures
+    c.in_ok-extend_from_slice.ensures.items))) in
     record {
       refused = c.refused.result.now;
       counts = c.refused.ensures;
+      sids = c.refused_sids.result.now;
+      counts_sids = c.refused_sids.ensures;
       ranks = c.in_ok-ranks.ranks.items;
       are_ranks = c.in_ok-ranks.ensures;
       lives = c.in_ok-lives.lives.items;

@@ -98,6 +98,7 @@ returns-clause-told c = λ k life is now under.
       );
       waiting = c.waiting.ensures k life is;
       dropped = c.dropped.ensures k life is;
+      oldest = c.oldest.ensures k life is now;
       middle = subst (λ (ds : List ℕ). TellsPercentile 50 ds c.percentile.result) (append-nil (delays_in k life))
           (c.percentile.ensures k (life ∷ []) alone);
       p99 = subst (λ (ds : List ℕ). TellsPercentile 99 ds c.percentile-2.result) (append-nil (delays_in k life))

@@ -1,5 +1,5 @@
 -- Nothing is counted before any entry.
-use Rattle.std.proofs.Common.{◌≡◌, [], length, refl, sym, ap, subst, arith}
+use Rattle.std.proofs.Common.{◌≡◌, ◌∙◌, ℕ, List, [], length, get_or, refl, sym, ap, subst, arith}
 use Rattle.std.proofs.lemmas.List.{get_or-replicate}
 use Rattle.sched_history.specs.Machine.{Past}
 use Rattle.sched_report.specs.Reported.{IsReport}
@@ -11,7 +11,7 @@ invariant_of-result c =
     let uncounted : length c.new-3.result.items ≡ 0 = ap length c.new-3.ensures.items in
     subst (λ (p : Past).
     IsReport c.args.config p 0 c.in_ok-new.field-0.value c.none.result c.none-2.result _ c.start.result
-    c.new-2.result.items c.in_ok-vec.field-0.items c.new-3.result.items)
+    c.new-2.result.items c.in_ok-vec.field-0.items c.new-3.result.items c.in_ok-vec-2.field-0.items)
     (sym c.in_ok-open.ensures)
     (record {
       config = refl;
@@ -32,5 +32,11 @@ invariant_of-result c =
         long = uncounted;
         each = λ k n life below. absurd (omega (arith, below, uncounted));
         few = λ k n below. absurd (omega (arith, below, uncounted));
+      };
+      sids = record {
+        places = omega (arith, c.in_ok-vec-2.field-0.ok.0, c.in_ok-vec-2.ensures.len);
+        each = λ sid below. ap (λ (ns : List ℕ). get_or ns sid 0)
+            (c.in_ok-vec-2.ensures.items_if_clones_equal (λ y same. same))
+            ∙ get_or-replicate 65536 sid 0 0 below;
       };
     })

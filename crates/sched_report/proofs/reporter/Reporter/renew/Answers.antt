@@ -6,6 +6,7 @@ use Rattle.sched_calls.specs.declared.reply.Entry.{Entry}
 use Rattle.sched_report.specs.declared.life.LifeTally.{LifeTally}
 use Rattle.sched_report.specs.Counts.{CountsRefusals}
 use Rattle.sched_report.specs.Extremes.{AreExtremes}
+use Rattle.sched_report.specs.RefusedSids.{CountsRefusedSids}
 use Rattle.sched_report.specs.Live.{AreLive}
 use Rattle.sched_report.specs.Lives.{lives_of, passing, lives_in}
 use Rattle.sched_report.specs.Reported.{IsReport}
@@ -27,6 +28,20 @@ invariant_of-self c =
     with_items_is s.lives c.renew_each.new.lives (c.renew_each.auto.lives ∙ c.deref_mut.ensures.len) in
     let under : (with_items s.under c.renew_counts.new.under).items ≡ c.renew_counts.new.under =
     with_items_is s.under c.renew_counts.new.under (c.renew_counts.auto.under ∙ c.deref_mut-2.ensures.len) in
+    let sids : (with_items s.refused_sids c.renew_counts-2.new.under).items ≡ c.renew_counts-2.new.under =
+    with_items_is s.refused_sids c.renew_counts-2.new.under (c.renew_counts-2.auto.under ∙ c.deref_mut-3.ensures.len) in
+    let places : length c.renew_counts-2.new.under ≡ 65536 =
+    omega (
+      arith,
+      c.renew_counts-2.ensures.len,
+      ap (λ (ns : List ℕ). length ns) c.deref_mut-3.ensures.value,
+      i.sids.places,
+    ) in
+    let unrefused : CountsRefusedSids c.renew_counts-2.new.under [] =
+    record {
+      places = places;
+      each = λ sid below. c.renew_counts-2.ensures.none sid 0 (omega (arith, below, places));
+    } in
     let are : AreLives k c.renew_each.new.lives (lives_in n h) =
     c.renew_each.ensures.lives k s.passed h i.legal i.next
     (subst (λ (ts : List LifeTally). AreLives k ts (lives_in s.passed h)) (sym c.deref_mut.ensures.value) i.lives) in
@@ -49,7 +64,8 @@ invariant_of-self c =
     } in
     subst (λ (p : ℕ). IsReport k s.auditor p s.flows.value c.none-self-inside.result
     c.none-self-inside-2.result _ s.next
-    (with_items s.lives c.renew_each.new.lives).items s.places.items (with_items s.under c.renew_counts.new.under).items)
+    (with_items s.lives c.renew_each.new.lives).items s.places.items (with_items s.under c.renew_counts.new.under).items
+    (with_items s.refused_sids c.renew_counts-2.new.under).items)
     (sym c.taken-self-inside.ensures.value)
     (record {
       config = i.config;
@@ -67,4 +83,6 @@ invariant_of-self c =
       lives = subst (λ (ts : List LifeTally). AreLives k ts (lives_in n h)) (sym lives) are;
       live = subst (AreLive s.places.items) (sym lives) live;
       waited = subst (AreUnder k n h) (sym under) waited;
+      sids = subst (λ (counts : List ℕ). CountsRefusedSids counts (drop n h)) (sym sids)
+          (subst (CountsRefusedSids c.renew_counts-2.new.under) (sym none) unrefused);
     })

@@ -18,6 +18,7 @@ use Rattle.sched_report.specs.Reported.{IsReport}
 use Rattle.sched_report.specs.Live.{AreLive}
 use Rattle.sched_report.specs.Counts.{CountsRefusals}
 use Rattle.sched_report.specs.Extremes.{AreExtremes, IsWatched}
+use Rattle.sched_report.specs.RefusedSids.{CountsRefusedSids}
 use Rattle.sched_report.specs.Totals.{AreTotals}
 use Rattle.sched_report.specs.Lives.{lives_in}
 use Rattle.sched_report.specs.declared.life.LifeTally.{LifeTally}
@@ -202,7 +203,8 @@ invariant_of-self-2 c =
     subst (λ (past : Past). IsReport k past p c.note.new.flows c.add.new.self c.add-2.new.self
     c.count_refusal.new.counts
     c.follow-self-inside.result c.follow-self-inside.new.lives.items
-    (with_items c.self.inside.places c.follow-self-inside.new.places).items c.count_under.new.under.items)
+    (with_items c.self.inside.places c.follow-self-inside.new.places).items c.count_under.new.under.items
+    (with_items c.self.inside.refused_sids c.count_refused_sid.new.counts).items)
     (sym c.in_ok-judge.ensures.taken)
     (record {
       config = i.config;
@@ -224,6 +226,12 @@ invariant_of-self-2 c =
           (c.follow-self-inside.auto.places ∙ c.deref_mut-2.ensures.len)))
           c.follow-self-inside.ensures.live;
       waited = c.count_under.ensures k p h waits;
+      sids = subst (λ (counts : List ℕ). CountsRefusedSids counts (drop p (h ++ e ∷ [])))
+          (sym (with_items_is c.self.inside.refused_sids c.count_refused_sid.new.counts
+          (c.count_refused_sid.auto.counts ∙ c.deref_mut-3.ensures.len)))
+          (subst (CountsRefusedSids c.count_refused_sid.new.counts) (sym rest-more)
+          (c.count_refused_sid.ensures rest
+          (subst (λ (counts : List ℕ). CountsRefusedSids counts rest) (sym c.deref_mut-3.ensures.value) i.sids)));
     })
 
 pub invariant_of-self : goal.invariant_of-self
@@ -243,6 +251,7 @@ invariant_of-self c =
       live = subst (λ (places : List ℕ). AreLive places c.reserve_for.new.lives.items) c.deref.ensures.value
           c.reserve_for.ensures.live;
       waited = i.waited;
+      sids = i.sids;
     }
 
 pub invariant_of-self-in-Err-reserve_count : goal.invariant_of-self-in-Err-reserve_count
@@ -262,6 +271,7 @@ invariant_of-self-in-Err-reserve_count c =
       live = subst (λ (places : List ℕ). AreLive places c.reserve_for.new.lives.items) c.deref.ensures.value
           c.reserve_for.ensures.live;
       waited = rw (c.reserve_count.ensures.same) i.waited;
+      sids = i.sids;
     }
 
 pub invariant_of-self-in_default-under : goal.invariant_of-self-in_default-under
@@ -281,6 +291,7 @@ invariant_of-self-in_default-under c =
       live = subst (λ (places : List ℕ). AreLive places c.reserve_for.new.lives.items) c.deref.ensures.value
           c.reserve_for.ensures.live;
       waited = rw (c.reserve_count.ensures.same) i.waited;
+      sids = i.sids;
     }
 
 pub invariant_of-self-in_default : goal.invariant_of-self-in_default
@@ -300,6 +311,7 @@ invariant_of-self-in_default c =
       live = subst (λ (places : List ℕ). AreLive places c.reserve_for.new.lives.items) c.deref.ensures.value
           c.reserve_for.ensures.live;
       waited = rw (c.reserve_count.ensures.same) i.waited;
+      sids = i.sids;
     }
 
 pub invariant_of-self-in_err-judge : goal.invariant_of-self-in_err-judge
@@ -307,7 +319,7 @@ invariant_of-self-in_err-judge c =
     let i = c.self.invariant in
     let s = c.self.inside in
     subst (λ (p : Past). IsReport s.config p s.passed s.flows.value s.totals s.extremes s.refused s.next
-    c.reserve_for.new.lives.items s.places.items c.reserve_count.new.under.items)
+    c.reserve_for.new.lives.items s.places.items c.reserve_count.new.under.items s.refused_sids.items)
     (sym c.in_err-judge.ensures.err)
     (record {
       config = i.config;
@@ -323,4 +335,5 @@ invariant_of-self-in_err-judge c =
       live = subst (λ (places : List ℕ). AreLive places c.reserve_for.new.lives.items) c.deref.ensures.value
           c.reserve_for.ensures.live;
       waited = rw (c.reserve_count.ensures.same) i.waited;
+      sids = i.sids;
     })
