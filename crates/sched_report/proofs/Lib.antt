@@ -32,3 +32,4 @@ pub mod RanksTold
 pub mod RowsPercentiles
 pub mod RowsSaid
 pub mod RowsUses
+pub mod RowsGaps
