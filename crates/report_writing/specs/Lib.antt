@@ -10,4 +10,5 @@ pub mod Text
 pub mod Samples
 pub mod RankMetrics
 pub mod LifeMetrics
+pub mod ExtremeMetrics
 pub mod Metrics
