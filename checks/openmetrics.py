@@ -109,11 +109,12 @@ def is_read_by_others(text):
 
 
 class Wanted:
-    """The samples that the numbers of a report have, where a minislot has so many ticks."""
+    """The samples that the numbers of a report and its extremes have, where a minislot has so many ticks."""
 
-    def __init__(self, ticks, told):
+    def __init__(self, ticks, told, extremes):
         self.minislot, self.samples = ticks * TICK, {}
         self.channel(told)
+        self.extremes(extremes)
         for rank in told["priorities"]:
             self.rank(rank)
         for place, life in enumerate(told["lives"]):
@@ -137,6 +138,16 @@ class Wanted:
             self.add("refusals_total", told["refused"].get(str(it), 0), number=it)
         for it in told["use"]:
             self.add_time("use_seconds_total", told["use"][it], use=it)
+
+    def extremes(self, told):
+        self.add("most_elements", told["elements"])
+        self.add("lapsed_reserves_total", told["lapsed"])
+        if told["margin"] is not None:
+            self.add_time("least_margin_seconds", told["margin"])
+        if told["gap"] is not None:
+            self.add("least_free_minislots", told["gap"])
+        for receiver, lag in told["lags"].items():
+            self.add_time("receiver_most_lag_seconds", lag, receiver=receiver)
 
     def delays(self, name, delay, **labels):
         for part, key in (("0.0", "least"), ("0.5", "middle"), ("0.99", "p99"), ("1.0", "greatest")):
