@@ -109,12 +109,13 @@ def is_read_by_others(text):
 
 
 class Wanted:
-    """The samples that the numbers of a report have, those that are told here alone among them, where a minislot has
-    so many ticks."""
+    """The samples that the numbers of a report have, its extremes and those that are told here alone among them, where
+    a minislot has so many ticks."""
 
-    def __init__(self, ticks, told, alone):
+    def __init__(self, ticks, told, extremes, alone):
         self.minislot, self.samples = ticks * TICK, {}
         self.channel(told)
+        self.extremes(extremes)
         for sid, count in alone["refused_sids"].items():
             self.add("sid_refusals_total", count, sid=sid)
         for rank in told["priorities"]:
@@ -142,6 +143,16 @@ class Wanted:
             self.add("refusals_total", told["refused"].get(str(it), 0), number=it)
         for it in told["use"]:
             self.add_time("use_seconds_total", told["use"][it], use=it)
+
+    def extremes(self, told):
+        self.add("most_elements", told["elements"])
+        self.add("lapsed_reserves_total", told["lapsed"])
+        if told["margin"] is not None:
+            self.add_time("least_margin_seconds", told["margin"])
+        if told["gap"] is not None:
+            self.add("least_free_minislots", told["gap"])
+        for receiver, lag in told["lags"].items():
+            self.add_time("receiver_most_lag_seconds", lag, receiver=receiver)
 
     def delays(self, name, delay, **labels):
         for part, key in (("0.0", "least"), ("0.5", "middle"), ("0.99", "p99"), ("1.0", "greatest")):

@@ -2,10 +2,10 @@
 request and every grant of a flow, and looks each delay up among them. It is slow, and says what the report has to
 say. A history may say of how many entries at its front nothing is told: `passed`."""
 
-from itertools import accumulate
+from itertools import accumulate, groupby
 
 from changed import keeps
-from plain import Auditor
+from plain import Auditor, LAST_MAP
 from plain_bursts import Bursts
 
 REQUEST, NULL = 1, 7
@@ -14,6 +14,8 @@ CALLS = ("admit", "ask", "build", "header", "heard", "remove", "reserve", "skip"
 # Of these a report tells how many there were where there was one.
 MORE_CALLS = ("change", "replace", "rest", "wake")
 USES = ("data", "idle", "opportunity", "poll", "request", "unsolicited")
+# The uses of minislots that hold back no data.
+FREE = ("data", "idle", "open")
 
 
 def elements_of(reply):
@@ -60,6 +62,11 @@ class Meeting(Auditor):
                if self.opportunity_at(min(stop for stop in stops if stop >= offset) - offset, waiting)}
         self.maps += 1
         return met
+
+
+    def lapsed(self):
+        """How many Reserves were met by none of so many MAPs that do not settle."""
+        return sum(1 for it in self.reserves if it.met is None and self.maps - it.maps >= LAST_MAP)
 
 
 def met_in(config, entries):
@@ -146,8 +153,8 @@ def told_of(history):
     return history["entries"][passed_in(history):]
 
 
-def uses_of_frames(history):
-    """For each frame that is told of the minislots of each of its allocations, by what it is for."""
+def minislots_of_frames(history):
+    """For each frame that is told of what each of its minislots is for, in order."""
     config, entries, kinds = history["config"], history["entries"], {}
     for at, (entry, met) in enumerate(zip(entries, met_in(config, entries))):
         if accepted(entry, "admit", "admitted"):
@@ -155,16 +162,58 @@ def uses_of_frames(history):
         elif accepted(entry, "remove", "removed"):
             del kinds[entry["call"]["sid"]]
         elif entry["reply"]["kind"] == "map" and at >= passed_in(history):
-            count = dict.fromkeys(uses_told(config), 0)
-            for sid, iuc, offset, length, _ in allocations_of(entry["reply"]):
-                count[use_of(kinds, met, sid, iuc, offset)] += length
-            yield entry["reply"]["start"], count
+            yield entry["reply"]["start"], [use_of(kinds, met, sid, iuc, offset)
+                                            for sid, iuc, offset, length, _ in allocations_of(entry["reply"])
+                                            for _ in range(length)]
+
+
+def uses_of_frames(history):
+    """For each of these frames how many minislots there are for each use."""
+    for start, minislots in minislots_of_frames(history):
+        yield start, {name: minislots.count(name) for name in uses_told(history["config"])}
 
 
 def uses(history):
     """The minislots of all these frames together, by what they are for."""
     frames = [count for _, count in uses_of_frames(history)]
     return {name: sum(count[name] for count in frames) for name in uses_told(history["config"])}
+
+
+def longest_run(minislots):
+    """The most of these in a row that hold back no data."""
+    runs = groupby(minislots, lambda use: use in FREE)
+    return max((len(list(run)) for is_free, run in runs if is_free), default=0)
+
+
+def progress_of(config, entries, receiver):
+    """The minislot before which a receiver has handed in all that it heard."""
+    told = [entry["call"]["upto"] for entry in entries
+            if accepted(entry, "heard", "noted") and entry["call"]["receiver"] == receiver]
+    return told[-1] if told else config["start"]
+
+
+def lapsed_in(history):
+    """How many Reserves lapsed with MAPs that are told of."""
+    config, entries = history["config"], history["entries"]
+    meeting, before = Meeting({**config, "calls": len(entries) + 1}), 0
+    for at, entry in enumerate(entries):
+        before = meeting.lapsed() if at == passed_in(history) else before
+        meeting.offsets_of(entry)
+    return meeting.lapsed() - before if told_of(history) else 0
+
+
+def extremes(history):
+    """What is least or greatest among the MAPs that are told of, and how many Reserves lapsed."""
+    config, entries = history["config"], history["entries"]
+    built = [(at, entry["call"]["now"], entry["reply"]) for at, entry in enumerate(entries)
+             if at >= passed_in(history) and entry["reply"]["kind"] == "map"]
+    lags = {receiver: [max(reply["start"] - progress_of(config, entries[:at], receiver), 0) for at, _, reply in built]
+            for receiver in range(config["receivers"])}
+    return {"elements": max((len(elements_of(reply)) for _, _, reply in built), default=0),
+            "gap": min((longest_run(frame) for _, frame in minislots_of_frames(history)), default=None),
+            "lags": {receiver: max(lags[receiver]) for receiver in lags if built},
+            "lapsed": lapsed_in(history),
+            "margin": min((reply["start"] - now for _, now, reply in built), default=None)}
 
 
 def reservation_of(flow):

@@ -11,4 +11,5 @@ pub mod Samples
 pub mod RefusedSids
 pub mod RankMetrics
 pub mod LifeMetrics
+pub mod ExtremeMetrics
 pub mod Metrics

@@ -4,17 +4,19 @@ use Rattle.std.specs.List.{range_with_len}
 use Rattle.sched_report.specs.declared.calls.Calls.{Calls}
 use Rattle.sched_report.specs.declared.slots.Slots.{Slots}
 use Rattle.sched_report.specs.declared.totals.Totals.{Totals}
+use Rattle.sched_report.specs.declared.extremes.Extremes.{Extremes}
 use Rattle.sched_report.specs.declared.life.LifeNumbers.{LifeNumbers}
 use Rattle.sched_report.specs.declared.ranks_told.RankTold.{RankTold}
 use Rattle.sched_report.specs.Counts.{CountsRefusals}
 use Rattle.sched_report.specs.RefusedSids.{CountsRefusedSids}
 use Rattle.sched_report.specs.RanksTold.{AreRanksTold}
-use Rattle.sched_report.specs.Window.{Window, entries_of, totals_told}
+use Rattle.sched_report.specs.Window.{Window, entries_of, totals_told, AreExtremesTold}
 use Rattle.report_writing.specs.declared.metrics.sample.Measure.TheVariants.{Seconds, Pieces}
 use Rattle.report_writing.specs.Gathered.{AreLivesTold}
 use Rattle.report_writing.specs.Samples.{heading, label, labels_of, count_sample, time_sample, count_line}
 use Rattle.report_writing.specs.Samples.{time_line_or_none}
 use Rattle.report_writing.specs.declared.metrics.sample.Whose.TheVariants.{Refusal}
+use Rattle.report_writing.specs.ExtremeMetrics.{extremes_metrics}
 use Rattle.report_writing.specs.RefusedSids.{refused_sids_metrics}
 use Rattle.report_writing.specs.RankMetrics.{ranks_metrics}
 use Rattle.report_writing.specs.LifeMetrics.{lives_metrics}
@@ -106,20 +108,23 @@ channel_metrics ticks t refused =
     frames_metrics t ++ (reach_metrics ticks t ++ (calls_metrics t.calls ++ (refusals_metrics refused
     ++ use_metrics ticks t.opens t.slots)))
 
--- all of them, where a minislot has so many ticks
-unfoldable pub metrics_text : ℕ → Totals → List ℕ → List ℕ → List RankTold → List LifeNumbers → List ℕ
-metrics_text ticks t refused sids ranks lives =
-    channel_metrics ticks t refused ++ (refused_sids_metrics sids ++ (ranks_metrics ticks ranks
-    ++ (lives_metrics ticks lives ++ codes "# EOF\n")))
+-- all of them, where a minislot has so many ticks, and there are so many receivers
+unfoldable pub metrics_text : ℕ → ℕ → Totals → List ℕ → Extremes → List ℕ → List RankTold → List LifeNumbers → List ℕ
+metrics_text ticks receivers t refused x sids ranks lives =
+    channel_metrics ticks t refused ++ (extremes_metrics ticks receivers x ++ (refused_sids_metrics sids
+    ++ (ranks_metrics ticks ranks ++ (lives_metrics ticks lives ++ codes "# EOF\n"))))
 
 -- The text is the metrics of the report on a history
 pub record IsReportMetrics (w : Window) (text : List ℕ) : Type 0 where
   pub refused : List ℕ
   pub counts : CountsRefusals refused (entries_of w)
+  pub extremes : Extremes
+  pub are_extremes : AreExtremesTold w extremes
   pub sids : List ℕ
   pub counts_sids : CountsRefusedSids sids (entries_of w)
   pub ranks : List RankTold
   pub are_ranks : AreRanksTold w ranks
   pub lives : List LifeNumbers
   pub are_lives : AreLivesTold w lives
-  pub text_is : text ≡ metrics_text w.config.ticks (totals_told w) refused sids ranks lives
+  pub text_is : text
+      ≡ metrics_text w.config.ticks w.config.receivers (totals_told w) refused extremes sids ranks lives

@@ -6,6 +6,7 @@ use Rattle.report_writing.specs.declared.metrics.sample.Measure.{Measure}
 use Rattle.report_writing.specs.declared.metrics.sample.Measure.TheVariants.{Bytes, Seconds, Pieces}
 use Rattle.report_writing.specs.declared.metrics.sample.Whose.{Whose}
 use Rattle.report_writing.specs.declared.metrics.sample.Whose.TheVariants.{Call, Use, Refusal, Sid, Rank, Life}
+use Rattle.report_writing.specs.declared.metrics.sample.Whose.TheVariants.{Receiver}
 
 -- a point and the eight digits behind it of so many hundred millionths
 abbrev pub hundred_millionths_end : ℕ → List ℕ
@@ -55,6 +56,7 @@ labels_of (Refusal number) = label (codes "number") (decimal number)
 labels_of (Sid sid) = label (codes "sid") (decimal sid)
 labels_of (Rank rank) = label (codes "rank") (rank_value rank)
 labels_of (Life place sid) = label (codes "life") (decimal place) ++ (codes "," ++ label (codes "sid") (decimal sid))
+labels_of (Receiver number) = label (codes "receiver") (decimal number)
 
 -- what stands before a number that has labels
 unfoldable pub sample_front : List ℕ → List ℕ → List ℕ
@@ -81,6 +83,11 @@ time_sample_or_none ticks name labels (Some minislots) = time_sample ticks name 
 -- a number without labels
 unfoldable pub count_line : List ℕ → ℕ → List ℕ
 count_line name n = name ++ (codes " " ++ (decimal n ++ codes "\n"))
+
+-- it, where there is such a number
+abbrev pub count_line_or_none : List ℕ → Option ℕ → List ℕ
+count_line_or_none name None = []
+count_line_or_none name (Some n) = count_line name n
 
 -- a time without labels
 unfoldable pub time_line : ℕ → List ℕ → ℕ → List ℕ

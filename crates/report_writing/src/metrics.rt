@@ -6,6 +6,7 @@ ghost use Rattle.report_writing.specs.Metrics.{channel_metrics, IsReportMetrics}
 mod calls;
 mod channel;
 mod delays;
+mod extremes;
 mod life;
 mod lives;
 mod ranks;
@@ -15,6 +16,7 @@ mod sample;
 use crate::gathered::{lives_told, ranks_told};
 use calls::push_calls;
 use channel::{push_frames, push_reach, push_refusals, push_use};
+use extremes::push_extremes;
 use lives::push_lives_metrics;
 use minislots::Checked;
 use ranks::push_ranks_metrics;
@@ -55,8 +57,10 @@ pub fn metrics_text(
     let lives = lives_told(alloc, reporter)?;
     let ranks = ranks_told(alloc, reporter)?;
     let totals = reporter.totals();
+    let extremes = reporter.extremes();
     let mut words = Vec::new(alloc);
     push_channel(&mut words, ticks, &totals, reporter.refused())?;
+    push_extremes(&mut words, ticks, config.receivers(), &extremes)?;
     push_refused_sids(&mut words, reporter.refused_sids())?;
     push_ranks_metrics(&mut words, ticks, &ranks)?;
     push_lives_metrics(&mut words, ticks, &lives)?;

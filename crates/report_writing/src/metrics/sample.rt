@@ -3,7 +3,7 @@
 ghost use Rattle.std.specs.Prelude.{◌≡◌, ◌≤◌, ◌+◌, ◌++◌, OnOk, codes, decimal};
 ghost use Rattle.report_writing.specs.Samples.{hundred_millionths_end, seconds_text, type_line, unit_line, help_line};
 ghost use Rattle.report_writing.specs.Samples.{heading, label, rank_value, labels_of, sample_front, count_sample};
-ghost use Rattle.report_writing.specs.Samples.{time_sample, count_line, time_line_or_none};
+ghost use Rattle.report_writing.specs.Samples.{time_sample, count_line, count_line_or_none, time_line_or_none};
 
 use crate::text::{digit, push_decimal};
 use itoa::Buffer;
@@ -34,6 +34,8 @@ pub(crate) enum Whose {
     Rank(u8),
     // The life at this place in the order of the admissions, counted from 0, under this SID.
     Life(u64, u16),
+    // The receiver with this number.
+    Receiver(u64),
 }
 
 // A point and the eight digits behind it of so many hundred millionths.
@@ -184,6 +186,7 @@ pub(crate) fn push_labels(words: &mut Vec<u8>, whose: Whose) -> Result<(), Alloc
         Whose::Sid(sid) => push_number_label(words, b"sid", sid),
         Whose::Rank(rank) => push_rank_label(words, rank),
         Whose::Life(place, sid) => push_life_labels(words, place, sid),
+        Whose::Receiver(number) => push_number_label(words, b"receiver", number),
     }
 }
 
@@ -245,6 +248,21 @@ pub(crate) fn push_count_line(
     words.extend_from_slice(b" ")?;
     push_decimal(words, number)?;
     words.extend_from_slice(b"\n")
+}
+
+// It, where there is one.
+pub(crate) fn push_count_line_or_none(
+    words: &mut Vec<u8>,
+    name: &[u8],
+    number: Option<u64>,
+) -> Result<(), AllocError>
+    ensures { OnOk result (words.new.items
+        ≡ words.old.items ++ count_line_or_none name.now number) }
+{
+    match number {
+        Some(number) => push_count_line(words, name, number),
+        None => Ok(()),
+    }
 }
 
 // A time without labels, where there is one.
