@@ -56,8 +56,8 @@ fn put_illegal<W: Sink>(writer: &mut W, form: JournalForm, index: u64) -> Result
 /// Reads a journal, of any length, and audits it in the memory of a scheduler's state and of one line. Writes `legal`
 /// and the number of its entries, or `illegal` and the first entry, counted from 0, whose reply the scheduler may not
 /// give after the entries before it; or the same in JSON, of a legal one with the bytes behind its last newline. Where
-/// words are asked for they stand behind the line of an illegal journal, as [`run_audit`](crate::run_audit) writes them.
-/// Nothing is written where a line is bad, nor before another fault than one of output.
+/// words are asked for they stand behind the line of an illegal journal, as [`run_audit`](crate::run_audit) writes
+/// them. Nothing is written where a line is bad, nor before another fault than one of output.
 pub fn run_audit_journal<R: Source, W: Sink>(
     alloc: Global,
     reader: &mut R,

@@ -182,6 +182,11 @@ later, and earlier than the end. The flows that live then keep the bytes that ar
 outstanding; their requests of before are not told of. Entries from the end on are not
 judged.
 
+With --every it tells of one such part after the other, from each multiple of so many
+milliseconds to the next, as soon as each is over: with --json in a line for each, else
+in tables under a line `from` with the millisecond with which the part begins. A part
+without entries is left out. What is illegal or bad is told behind the parts before it.
+
 With --journal it reads a journal as `run --journal` prints it, of any length, line
 by line, and reports on it as on that history: standard error names bytes after
 the last newline, which are ignored (`torn` and how many), and a line that

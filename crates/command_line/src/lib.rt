@@ -248,8 +248,8 @@ fn report_picture_option<'a>(alloc: Global) -> Result<Arg<'a>, AllocError>
 // The command that tells how a channel did.
 fn report_command<'a>(alloc: Global) -> Result<Command<'a>, AllocError>
     ensures { IfOk result (λ r. IsCommand r (codes "report")
-        (codes "all" ∷ codes "json" ∷ codes "openmetrics" ∷ codes "svg" ∷ codes "from" ∷ codes "to" ∷ codes "journal"
-        ∷ codes "FILE" ∷ []) []) }
+        (codes "all" ∷ codes "json" ∷ codes "openmetrics" ∷ codes "svg" ∷ codes "from" ∷ codes "to" ∷ codes "every"
+        ∷ codes "journal" ∷ codes "FILE" ∷ []) []) }
 {
     let about = "Reads a history from standard input and prints how its channel did";
     let all = flag(
@@ -267,6 +267,7 @@ fn report_command<'a>(alloc: Global) -> Result<Command<'a>, AllocError>
         .arg(report_picture_option(alloc)?)?
         .arg(time_option(alloc, "from", from)?)?
         .arg(time_option(alloc, "to", to)?)?
+        .arg(every_option(alloc)?)?
         .arg(lines)?
         .arg(file_word(alloc))
 }
@@ -319,6 +320,21 @@ fn time_option<'a>(alloc: Global, name: &'a str, help: &'a str) -> Result<Arg<'a
         time.value_parser(ValueParser::unsigned(0, MOST_MILLISECONDS))
             .help(help),
     )
+}
+
+// How long each part is that a report tells of, one after the other.
+fn every_option<'a>(alloc: Global) -> Result<Arg<'a>, AllocError>
+    ensures named { IfOk result (λ r. r.id.now ≡ codes "every") }
+    ensures local { IfOk result (λ r. r.global ≡ false) }
+{
+    let every = Arg::new(alloc, "every").long("every").value_name("MS");
+    every
+        .value_parser(ValueParser::unsigned(1, MOST_MILLISECONDS))
+        .help("Tells of one part of so many milliseconds after the other")
+        .conflicts_with("openmetrics")?
+        .conflicts_with("svg")?
+        .conflicts_with("from")?
+        .conflicts_with("to")
 }
 
 // The command that draws the frames of a run.
@@ -423,8 +439,8 @@ pub fn commands<'a>(alloc: Global) -> Result<Command<'a>, AllocError>
         ∷ (codes "audit", codes "explain" ∷ codes "json" ∷ codes "journal" ∷ codes "FILE" ∷ [])
         ∷ (
           codes "report",
-          codes "all" ∷ codes "json" ∷ codes "openmetrics" ∷ codes "svg" ∷ codes "from" ∷ codes "to" ∷ codes "journal"
-              ∷ codes "FILE" ∷ [],
+          codes "all" ∷ codes "json" ∷ codes "openmetrics" ∷ codes "svg" ∷ codes "from" ∷ codes "to" ∷ codes "every"
+              ∷ codes "journal" ∷ codes "FILE" ∷ [],
         )
         ∷ (codes "storm", codes "FILE" ∷ []) ∷ (codes "check", codes "json" ∷ codes "FILE" ∷ [])
         ∷ (codes "pcap", codes "mac" ∷ codes "journal" ∷ codes "FILE" ∷ [])

@@ -80,6 +80,11 @@ pub(crate) fn range_of(report: &ArgMatches) -> Range {
     }
 }
 
+/// How many milliseconds each part has that the command `report` is asked for, one after the other.
+pub(crate) fn every_of(report: &ArgMatches) -> Option<u64> {
+    report.get_one("every")
+}
+
 /// In what words the command `live` is asked to answer.
 pub(crate) fn wording_of(live: &ArgMatches) -> Wording {
     if live.get_flag("explain") {

@@ -2,7 +2,9 @@
 //! nor the form for journals into that of its command: a frame on the stack has the room of all that is put into a
 //! function.
 
-use crate::asked::{audit_form_of, check_form_of, form_of, journal_form_of, output_of, range_of};
+use crate::asked::{
+    audit_form_of, check_form_of, every_of, form_of, journal_form_of, output_of, range_of,
+};
 use audit_command::{JournalEnd, audit_input, audit_journal_input};
 use check_lines::{Documents, Journals, Reads, check_any_input, tell_input};
 use clap::ArgMatches;
@@ -14,7 +16,7 @@ use command_line::{
 use draw_command::{draw_input, draw_journal_input};
 use journal_entries::EntriesEnd;
 use pcap_command::{ADDRESS, address_asked, frames_input, pcap_input, pcap_journal_input};
-use report_command::{report_input, report_journal_input};
+use report_command::{report_input, report_journal_input, series_input, series_of_journal_input};
 use run_command::run_input;
 use sched_storm::storm_input;
 use std::fs::File;
@@ -218,12 +220,11 @@ fn report_journal<R: Source>(
     rt: &(impl Print + Eprint + AllocGlobal),
     given: &mut Given<'_, '_, R>,
 ) -> ExitCode {
-    let outcome = report_journal_input(
-        rt,
-        &mut given.input,
-        form_of(given.words),
-        range_of(given.words),
-    );
+    let form = form_of(given.words);
+    let outcome = match every_of(given.words) {
+        Some(every) => series_of_journal_input(rt, &mut given.input, form, every),
+        None => report_journal_input(rt, &mut given.input, form, range_of(given.words)),
+    };
     ended_journal(rt, outcome, given)
 }
 
@@ -236,12 +237,11 @@ fn report<R: Source>(
     if given.words.get_flag("journal") {
         return report_journal(rt, given);
     }
-    let outcome = report_input(
-        rt,
-        &mut given.input,
-        form_of(given.words),
-        range_of(given.words),
-    );
+    let form = form_of(given.words);
+    let outcome = match every_of(given.words) {
+        Some(every) => series_input(rt, &mut given.input, form, every),
+        None => report_input(rt, &mut given.input, form, range_of(given.words)),
+    };
     ended(rt, outcome, given)
 }
 

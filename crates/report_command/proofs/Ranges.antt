@@ -150,8 +150,8 @@ ranged-more c r true w e going early is = ranged-begun c r w e going is
 ranged-more c r false w e going early is = ranged-waiting c r w e going (early refl) is
 
 -- an entry that is not taken changes nothing
-pub ranged-taken : (c : Config) (r : Range) (begun : Bool) (old new : Window) (e : Entry) (result : Result Unit JudgeFault)
-    → OnOk result (new ≡ record old { history = old.history ++ e ∷ [] }) → OnErr result (new ≡ old)
+pub ranged-taken : (c : Config) (r : Range) (begun : Bool) (old new : Window) (e : Entry)
+    → (result : Result Unit JudgeFault) → OnOk result (new ≡ record old { history = old.history ++ e ∷ [] }) → OnErr result (new ≡ old)
     → IsRanged c r begun (record old { history = old.history ++ e ∷ [] }) → IsRanged c r begun old
     → IsRanged c r begun new
 ranged-taken c r begun old new e (Ok x) taken err more same = subst (IsRanged c r begun) (sym taken) more

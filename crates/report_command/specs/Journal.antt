@@ -1,5 +1,5 @@
 -- What the report on a journal reads and writes.
-use Rattle.std.specs.Prelude.{◌≡◌, ◌⊎◌, ℕ, true, List, [], codes, Option}
+use Rattle.std.specs.Prelude.{◌≡◌, ◌⊎◌, ℕ, true, List, [], length, codes, Option}
 use Rattle.std.specs.Io.KnownBytes.{Appends}
 use Rattle.minislots.specs.declared.config.Config.{Config as Configuration}
 use Rattle.sched_calls.specs.declared.reply.Entry.{Entry}
@@ -13,16 +13,17 @@ use Rattle.journal_entries.specs.declared.unjudged.UnjudgedEntries.{UnjudgedEntr
 use Rattle.journal_entries.specs.Unjudged.{HasRead}
 use Rattle.sched_report.specs.Window.{Window}
 use Rattle.report_command.specs.declared.range.Range.{Range}
-use Rattle.report_command.specs.Range.{GoesOn, ticks_after, is_over, window_of}
+use Rattle.report_command.specs.Range.{GoesOn, ticks_after, is_over, entries_until, window_of}
 use Rattle.report_command.specs.Form.{IsSaid}
 use Rattle.report_command.specs.declared.journal.Shown.{Shown}
 use Rattle.report_command.specs.declared.journal.Shown.TheVariants as shown
 
--- the lines of a journal are this legal history, or its first ones are, behind which what is told is over; those behind
--- were not read
+-- the lines of a journal are this legal history, and what is told is over behind none of its entries; or its first ones
+-- are, behind the last of which alone it is, and those behind were not read
 abbrev pub FindsTold : Range → Option (List ℕ) → Option (List ℕ) → Configuration → List Entry → ℕ → Type 0
-FindsTold r unread left c es torn = FindsLegal unread left c es torn
-    ⊎ ((torn ≡ 0) × (is_over r.to (ticks_after c es) ≡ true) × (entries : UnjudgedEntries) × HasRead unread left entries c es)
+FindsTold r unread left c es torn = (FindsLegal unread left c es torn × GoesOn c r es)
+    ⊎ ((torn ≡ 0) × (is_over r.to (ticks_after c es) ≡ true) × (entries_until c r.to es ≡ length es)
+    × (entries : UnjudgedEntries) × HasRead unread left entries c es)
 
 -- what ended the entries of a journal
 abbrev pub EndsTold : Range → Option (List ℕ) → Option (List ℕ) → Configuration → List Entry → EntriesEnd → Type 0
@@ -49,7 +50,8 @@ IsShown r unread left (shown.Bad n) = FindsBadTold r unread left n
 
 -- The journal stands for a legal history up to the end of what is told of it, and the report on that in this form was
 -- written, and nothing else
-pub record ReportsJournal (form : Form) (r : Range) (unread left before after : Option (List ℕ)) (torn : ℕ) : Type 0 where
+pub record ReportsJournal (form : Form) (r : Range) (unread left before after : Option (List ℕ)) (torn : ℕ)
+    : Type 0 where
   pub config : Configuration
   pub entries : List Entry
   pub found : FindsTold r unread left config entries torn

@@ -2,3 +2,7 @@ pub mod Range
 pub mod Form
 pub mod Report
 pub mod Journal
+pub mod Series
+pub mod Parts
+pub mod HistorySeries
+pub mod JournalSeries

@@ -25,8 +25,8 @@ abbrev pub IsFed : Configuration → Range → List Entry → Fed → Type 0
 IsFed c r h (Legal reporter) = ◌≡◌ {A = Window} reporter (window_of c r h) × IsLegal c (window_of c r h).history
 IsFed c r h (Illegal i) = IsFirstIllegal c h i × GoesOn c r (take i h)
 
--- The reader's bytes are a history that is legal up to the end of what is told of it, and the report on that in this form
--- was written, and nothing else
+-- The reader's bytes are a history that is legal up to the end of what is told of it, and the report on that in this
+-- form was written, and nothing else
 pub record ReportsLegal (form : Form) (r : Range) (unread left before after : Option (List ℕ)) : Type 0 where
   pub history : History
   pub read : GivesHistory unread left (Ok history)

@@ -15,7 +15,7 @@ use std::alloc::Global;
 use text_stream::{RunFault, Sink, Source, TextFault};
 
 // Writes the line of the first entry that may not stand there: the history is not legal.
-fn put_illegal<W: Sink>(writer: &mut W, place: usize) -> Result<bool, TextFault>
+pub(crate) fn put_illegal<W: Sink>(writer: &mut W, place: usize) -> Result<bool, TextFault>
     ensures written { Writes W.contents W.has_failed writer.old writer.new
         (number_line (codes "illegal") place) result }
     ensures legal { IfOk result (λ legal. legal ≡ false) }

@@ -18,7 +18,8 @@ use text_stream::{Source, TextFault};
 // What the lines of a journal are.
 #[derive(Drop)]
 pub(crate) enum Shown {
-    // A legal history under this configuration, of which the reporter tells. So many bytes stand behind the last newline.
+    // A legal history under this configuration, of which the reporter tells. So many bytes stand behind the last
+    // newline.
     Legal(Checked, TimedReporter, u64),
     // This entry, counted from 0, is the first that may not follow those before it.
     Illegal(u64),

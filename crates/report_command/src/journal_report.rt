@@ -16,7 +16,10 @@ use std::alloc::Global;
 use text_stream::{RunFault, Sink, Source, TextFault};
 
 // Writes the line of the first entry that may not stand there.
-fn put_illegal_entry<W: Sink>(writer: &mut W, place: u64) -> Result<EntriesEnd, TextFault>
+pub(crate) fn put_illegal_entry<W: Sink>(
+    writer: &mut W,
+    place: u64,
+) -> Result<EntriesEnd, TextFault>
     ensures written { Writes W.contents W.has_failed writer.old writer.new
         (number_line (codes "illegal") place) result }
     ensures end { IfOk result (λ end. end ≡ EntriesEnd.Illegal place) }
@@ -25,10 +28,10 @@ fn put_illegal_entry<W: Sink>(writer: &mut W, place: u64) -> Result<EntriesEnd, 
     Ok(EntriesEnd::Illegal(place))
 }
 
-/// Reads a journal to its end, or to that of this range, and writes the report on what is in the range of it in this form;
-/// entries behind that are not read. Or where they are no legal history
-/// `illegal` and the first entry, counted from 0, whose reply may not follow those before it. Nothing is written where
-/// a line is bad, nor before another fault than one of output. Its memory is that of the lives, of the requests that
+/// Reads a journal to its end, or to that of this range, and writes the report on what is in the range of it in this
+/// form; entries behind that are not read. Or where they are no legal history `illegal` and the first entry, counted
+/// from 0, whose reply may not follow those before it. Nothing is written where a line is bad, nor before another fault
+/// than one of output. Its memory is that of the lives, of the requests that
 /// wait and of the kinds of delays, and not of the entries.
 pub fn run_journal_report<R: Source, W: Sink>(
     alloc: Global,

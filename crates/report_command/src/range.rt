@@ -1,12 +1,12 @@
 //! The part of a history that a report tells of.
 
-ghost use Rattle.std.specs.Prelude.{◌≡◌, ◌*◌, ◌-◌, nat_le};
+ghost use Rattle.std.specs.Prelude.{◌≡◌, ◌*◌, ◌-◌, ◌^◌, ◌<◌, nat_le};
 ghost use Rattle.report_command.specs.Range.{ticks_until, is_over};
 
 use minislots::Checked;
 
 // How many ticks of 6.25 microseconds a millisecond has.
-const TICKS: u128 = 160;
+pub(crate) const TICKS: u128 = 160;
 
 /// The part of a history that a report tells of: the entries at whose time the next frame starts so many milliseconds
 /// after the configuration's start, or later, and where an end is given, earlier than that.
@@ -46,7 +46,8 @@ impl Range {
 
 // How many ticks after the configuration's start a frame starts.
 pub(crate) fn ticks_until(config: &Checked, start: u64) -> u128
-    ensures { result ≡ ticks_until config.now start }
+    ensures is { result ≡ ticks_until config.now start }
+    ensures few { result < 2 ^ 100 }
 {
     u128::from(start.saturating_sub(config.start())) * u128::from(config.ticks())
 }

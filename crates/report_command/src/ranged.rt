@@ -4,7 +4,7 @@ ghost use Rattle.std.specs.Prelude.{◌≡◌, ◌↔◌, ◌≤◌, ◌++◌, �
 ghost use Rattle.sched_calls.specs.declared.reply.Entry.{Entry as Recorded};
 ghost use Rattle.sched_calls.specs.declared.reply.TheConstants.{MAX_WHOLE_HISTORY};
 ghost use Rattle.sched_history.specs.History.{IsStep, IsLegal};
-ghost use Rattle.report_command.specs.Range.{ticks_after, window_of, ends_here, IsCut, GoesOn};
+ghost use Rattle.report_command.specs.Range.{ticks_after, window_of, entries_until, ends_here, IsCut, GoesOn};
 
 use crate::range::{Range, ticks_until};
 use minislots::Checked;
@@ -53,6 +53,7 @@ impl RangedReporter {
     // Whether what is told is over behind the entries that were taken.
     pub(crate) fn is_over(&self) -> bool
         ensures over { result ≡ ends_here self.now }
+        ensures until { entries_until self.now.config self.now.range.to self.now.history ≡ length self.now.history }
         ensures goes_on { result ≡ false → GoesOn self.now.config self.now.range self.now.history }
     {
         self.range.is_over(self.ticks())

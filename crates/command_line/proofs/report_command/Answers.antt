@@ -19,7 +19,9 @@ returns c =
     c.in_ok-arg-5.ensures c.in_ok-time_option.ensures.local c.in_ok-time_option.ensures.named in
     let sixth = IsCommand-arg _ _ c.in_ok-time_option-2.field-0 (codes "report") (codes "to") _ [] fifth
     c.in_ok-arg-6.ensures c.in_ok-time_option-2.ensures.local c.in_ok-time_option-2.ensures.named in
-    let seventh = IsCommand-arg _ _ _ (codes "report") (codes "journal") _ [] sixth c.in_ok-arg-7.ensures
+    let seventh = IsCommand-arg _ _ c.in_ok-every_option.field-0 (codes "report") (codes "every") _ [] sixth
+    c.in_ok-arg-7.ensures c.in_ok-every_option.ensures.local c.in_ok-every_option.ensures.named in
+    let eighth = IsCommand-arg _ _ _ (codes "report") (codes "journal") _ [] seventh c.in_ok-arg-8.ensures
     c.journal_option-lines.ensures.local c.journal_option-lines.ensures.named in
-    IfOk-weaker _ _ _ (λ r adds. IsCommand-arg _ r _ (codes "report") (codes "FILE") _ [] seventh adds
-    c.file_word.ensures.local c.file_word.ensures.named) c.arg-8.ensures
+    IfOk-weaker _ _ _ (λ r adds. IsCommand-arg _ r _ (codes "report") (codes "FILE") _ [] eighth adds
+    c.file_word.ensures.local c.file_word.ensures.named) c.arg-9.ensures

@@ -42,7 +42,8 @@ fed c r h i v w taken legal told same =
     told ∙ ap (λ (v : Ranged). window_of v.config v.range (v.history ++ drop i h)) taken
     ∙ ap (window_of c r) (take-append-drop i h) in (
       is,
-      subst (IsLegal c) (sym (ap (λ (v : Ranged). v.history) taken) ∙ sym same ∙ ap (λ (w : Window). w.history) is) legal,
+      subst (IsLegal c)
+          (sym (ap (λ (v : Ranged). v.history) taken) ∙ sym same ∙ ap (λ (w : Window). w.history) is) legal,
     )
 
 pub returns-then-is_over-clause-ok : goal.returns-then-is_over-clause-ok

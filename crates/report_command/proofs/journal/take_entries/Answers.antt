@@ -1,7 +1,7 @@
 -- Whatever ends the journal: an entry that may not follow, or one too many, a line that is none, or the end.
-use Rattle.std.proofs.Common.{◌≡◌, true, ◌+◌, ◌++◌, ◌∷◌, [], refl, sym, ◌∙◌, subst, inl, inr}
+use Rattle.std.proofs.Common.{◌≡◌, true, ◌+◌, ◌++◌, ◌∷◌, [], length, refl, sym, ◌∙◌, subst, inl, inr}
 use Rattle.report_command.specs.declared.range.Range.{Range}
-use Rattle.report_command.specs.Range.{Ranged, GoesOn, ticks_after, is_over}
+use Rattle.report_command.specs.Range.{Ranged, GoesOn, ticks_after, is_over, entries_until}
 use Rattle.journal_entries.specs.Journal.{FindsIllegalIn, FindsNoEntryIn}
 use Rattle.journal_entries.specs.End.{EndsIllegal}
 use Rattle.journal_entries.proofs.Reading.{FindsIllegal-with, HasTooMany-with}
@@ -49,8 +49,13 @@ returns-in-Ok-NoEntry-clause-takes g c = λ before read.
 
 pub returns-in-Ok-End-clause-takes : goal.returns-in-Ok-End-clause-takes
 returns-in-Ok-End-clause-takes g c = λ before read.
-    inl ((rw c.in-Ok-End.field-0-is at c.in-Ok-End.ensures).reads before c.loop-place.reporter.config
-    c.loop-place.reporter.history (c.loop-place.invariant.so_far before read))
+    let at = c.loop-place in
+    inl (
+      (rw c.in-Ok-End.field-0-is at c.in-Ok-End.ensures).reads before at.reporter.config at.reporter.history
+          (at.invariant.so_far before read),
+      subst (λ (r : Range). GoesOn at.reporter.config r at.reporter.history) at.invariant.range
+          (c.is_over.ensures.goes_on c.if-is_over.false),
+    )
 
 pub returns-then-is_over-clause-takes : goal.returns-then-is_over-clause-takes
 returns-then-is_over-clause-takes g c = λ before read.
@@ -61,6 +66,8 @@ returns-then-is_over-clause-takes g c = λ before read.
       refl,
       subst (λ (r : Range). is_over r.to (ticks_after at.reporter.config at.reporter.history) ≡ true) at.invariant.range
           over,
+      subst (λ (r : Range). entries_until at.reporter.config r.to at.reporter.history ≡ length at.reporter.history)
+          at.invariant.range c.is_over.ensures.until,
       at.entries,
       at.invariant.so_far before read,
     )

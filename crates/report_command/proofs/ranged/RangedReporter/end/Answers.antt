@@ -11,7 +11,8 @@ returns-then-not-begun-clause-told c =
     let s = c.self.inside in
     subst (λ (v : Ranged). (rest : List Entry) → IsCut rest (ends_here v)
     → c.renew.new.self ≡ window_of v.config v.range (v.history ++ rest)) c.self.view_is
-    (λ rest cut. c.renew.ensures ∙ told-none s.config s.range s.begun s.timed c.self.invariant c.if-not-begun.true rest cut)
+    (λ rest cut. c.renew.ensures
+    ∙ told-none s.config s.range s.begun s.timed c.self.invariant c.if-not-begun.true rest cut)
 
 pub returns-then-not-begun-clause-same : goal.returns-then-not-begun-clause-same
 returns-then-not-begun-clause-same c =
