@@ -34,6 +34,20 @@ impl Settling {
         self.count = count;
     }
 
+    // The UCD count of the last MAP, or the configuration's.
+    pub(crate) fn count(&self) -> u8
+        ensures { result ≡ self.now.count }
+    {
+        self.count
+    }
+
+    // Where the last MAP starts that changed it, if one did.
+    pub(crate) fn change(&self) -> Option<u64>
+        ensures { result ≡ self.now.change }
+    {
+        self.change
+    }
+
     // Whether a MAP of this UCD count changes.
     pub(crate) fn changes(&self, count: u8) -> bool
         ensures { result ≡ not (count == self.now.count) }
