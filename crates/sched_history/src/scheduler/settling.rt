@@ -9,8 +9,8 @@ use minislots::Checked;
 // The UCD count of the last MAP, or the configuration's, and where the last MAP starts that changed it.
 #[derive(Clone, Copy)]
 pub(crate) struct Settling {
-    count: u8,
-    change: Option<u64>,
+    pub(crate) count: u8,
+    pub(crate) change: Option<u64>,
 }
 
 impl Settling {
@@ -32,20 +32,6 @@ impl Settling {
             self.change = Some(start);
         }
         self.count = count;
-    }
-
-    // The UCD count of the last MAP, or the configuration's.
-    pub(crate) fn count(&self) -> u8
-        ensures { result ≡ self.now.count }
-    {
-        self.count
-    }
-
-    // Where the last MAP starts that changed it, if one did.
-    pub(crate) fn change(&self) -> Option<u64>
-        ensures { result ≡ self.now.change }
-    {
-        self.change
     }
 
     // Whether a MAP of this UCD count changes.

@@ -71,8 +71,8 @@ impl<'a> Present<'a> {
             progress: state.receivers(alloc)?,
             ack: state.last_ack,
             header: state.header,
-            ucd_count: state.settling.count(),
-            change: state.settling.change(),
+            ucd_count: state.settling.count,
+            change: state.settling.change,
             flows: state.flows(alloc)?,
             reserves: reserves_of(alloc, &state.reserves)?,
         })

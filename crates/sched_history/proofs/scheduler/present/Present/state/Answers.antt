@@ -2,7 +2,7 @@
 use Rattle.std.proofs.Common.{◌∙◌, ap}
 use Rattle.sched_history.specs.ChannelState.{state_of}
 use Rattle.sched_history.specs.Machine.{Past}
-use Rattle.sched_history.proofs.state.States.{kept_state, state-after}
+use Rattle.sched_history.proofs.state.States.{state-after}
 use Rattle.sched_history.proofs.scheduler.present.Present.state.Goals as goal
 
 pub returns : goal.returns
@@ -12,8 +12,6 @@ returns c =
     rw (
       c.len.ensures.value,
       c.in_ok-receivers.ensures,
-      c.count.ensures,
-      c.change.ensures,
       c.in_ok-flows.ensures,
       c.in_ok-reserves_of.ensures,
     ) (state-after s h c.self.invariant.is_after ∙ ap (λ (p : Past). state_of p.config p.history) c.self.view_is)
