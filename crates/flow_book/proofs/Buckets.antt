@@ -9,7 +9,7 @@ use Rattle.minislots.specs.declared.config.Config.{Config}
 use Rattle.flow_book.specs.declared.flow.Grant.{Grant}
 use Rattle.flow_book.specs.Ceiling.{KeepsCeiling}
 use Rattle.flow_book.specs.Bucket.{BucketView, level_of, most_of, HaveStartedBy, StandsFor, IsLevel, IsSettled}
-use Rattle.flow_book.proofs.Windows.{one_more}
+use Rattle.flow_book.proofs.Windows.{one_more, start-end}
 use Rattle.flow_book.proofs.Levels.{level-keeps, keeps-level, level-more, started-front}
 use Rattle.flow_book.proofs.Started.{started-more}
 
@@ -110,11 +110,12 @@ pub settled-spent : (b : BucketView) (grants : List Grant) (slot n left : ℕ) �
 settled-spent b grants slot n left some within started = record {
   level = within;
   started = λ limited. started-more slot n grants started;
+  last = λ limited. sym (start-end grants slot n);
   first = λ none. absurd (omega (arith, none, some));
 }
 
 -- at the minislot from which on it is counted a bucket has its level
-level-now : (b : BucketView) (slot : ℕ) → b.level ≤ b.full → slot ≡ b.since → level_of b slot ≡ b.level
+pub level-now : (b : BucketView) (slot : ℕ) → b.level ≤ b.full → slot ≡ b.since → level_of b slot ≡ b.level
 level-now b slot within same =
     let none : slot - b.since ≡ 0 = omega arith in
     rw none (omega arith)

@@ -167,6 +167,7 @@ pub unlimited-settled : (slot bytes : ℕ) → StaysSettled unlimited unlimited 
 unlimited-settled slot bytes = λ grants settled started. record {
   level = omega arith;
   started = λ limited. absurd (omega arith);
+  last = λ limited. absurd (omega arith);
   first = λ none. refl;
 }
 

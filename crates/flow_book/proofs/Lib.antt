@@ -1,6 +1,7 @@
 pub mod Admission
 pub mod Amounts
 pub mod Slots
+pub mod States
 pub mod SlotOrders
 pub mod SlotBoxes
 pub mod SlotSids
@@ -34,6 +35,7 @@ pub mod RowsChanges
 pub mod RowsChoice
 pub mod RowsPeak
 pub mod RowsReserved
+pub mod RowsStates
 pub mod NextServed
 pub mod Numbered
 pub mod Numbers

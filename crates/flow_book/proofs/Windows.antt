@@ -1,6 +1,6 @@
 -- The windows of a flow's grants followed by one more.
-use Rattle.std.proofs.Common.{◌≡◌, refl, ap, ◌∙◌, ℕ, ◌+◌, ◌*◌, ◌<◌, ◌≤◌, List, [], ◌∷◌, ◌++◌, length, take}
-use Rattle.std.proofs.Common.{drop, inl, inr, arith}
+use Rattle.std.proofs.Common.{◌≡◌, refl, ap, ◌∙◌, ℕ, ◌+◌, ◌-◌, ◌*◌, ◌<◌, ◌≤◌, List, [], ◌∷◌, ◌++◌, length}
+use Rattle.std.proofs.Common.{take, drop, inl, inr, arith}
 use Rattle.std.proofs.Math.Seq.{get_or-append_seam}
 use Rattle.std.proofs.lemmas.Bool.{cases_eq}
 use Rattle.std.proofs.lemmas.List.{get_or_append_left, take-append-le, drop-append-le, take_all, length_push}
@@ -46,6 +46,14 @@ start-inside grants more i lt = ap (λ (g : Grant). g.start) (get_or_append_left
 pub start-last : (grants : List Grant) (start n : ℕ) → start_of (grants ++ one_more start n) (length grants) ≡ start
 start-last grants start n =
     ap (λ (g : Grant). g.start) (get_or-append_seam grants (record { start = start; bytes = n }) [] _)
+
+-- which is where the last of them starts
+pub start-end : (grants : List Grant) (start n : ℕ)
+    → start_of (grants ++ one_more start n) (length (grants ++ one_more start n) - 1) ≡ start
+start-end grants start n =
+    let last : length (grants ++ one_more start n) - 1 ≡ length grants =
+    omega (arith, length_push grants (record { start = start; bytes = n })) in
+    rw last (start-last grants start n)
 
 -- after the last grant there are no bytes
 pub drop-end : (grants : List Grant) → bytes_of (drop (length grants) grants) ≡ 0

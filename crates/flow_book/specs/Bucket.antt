@@ -64,10 +64,11 @@ HasOneMore old new slot bytes = (c : Config) (rate burst : ℕ) (grants : List G
     → StandsFor c rate burst new (grants ++ record { start = slot; bytes = bytes } ∷ [])
 
 -- The grants of a bucket decide what it keeps: at most what the burst allows, and where there is a ceiling the least
--- minislot by which they have started
+-- minislot by which they have started, which is where the last of them starts
 pub record IsSettled (b : BucketView) (grants : List Grant) : Type 0 where
   pub level : b.level ≤ b.full
   pub started : 0 < b.per_slot → HaveStartedBy b.since grants
+  pub last : 0 < b.per_slot → b.since ≡ start_of grants (length grants - 1)
   pub first : b.per_slot ≡ 0 → b.since ≡ 0
 
 -- where the one bucket is settled by some grants that have started, the other is by them and this one more

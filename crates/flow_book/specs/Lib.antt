@@ -14,6 +14,7 @@ pub mod Bucket
 pub mod Limits
 pub mod Choice
 pub mod Book
+pub mod FlowState
 pub mod Entry
 pub mod Overlay
 pub mod Parts

@@ -2,6 +2,9 @@
 
 ghost use Rattle.std.specs.Prelude.{◌≡◌, ◌<◌, ◌≤◌, ◌+◌, ◌^◌};
 ghost use Rattle.flow_book.specs.Batches.{no_batches, with_request, since_of};
+ghost use Rattle.flow_book.specs.FlowState.{batch_state};
+
+use sched_calls::BatchState;
 
 /// The requests of a flow in two batches, as they were behind its last request. A request joins the second where bytes
 /// of the first are not granted yet.
@@ -53,6 +56,26 @@ impl Batches {
             first: self.first,
             second: Some(second),
         }
+    }
+
+    // Those that are not over, of a flow that asked and was granted so many bytes.
+    pub(crate) fn state(&self, asked: u64, granted: u64) -> Option<BatchState>
+        ensures { result ≡ batch_state self.now asked granted }
+    {
+        if asked == granted {
+            return None;
+        }
+        let Batches {
+            mut end,
+            mut first,
+            mut second,
+        } = *self;
+        if end <= granted {
+            end = asked;
+            first = second.unwrap_or(first);
+            second = None;
+        }
+        Some(BatchState { end, first, second })
     }
 
     // The least minislot in which a request of the batches was heard of which bytes wait, where so many bytes are

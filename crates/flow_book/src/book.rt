@@ -35,7 +35,7 @@ use std::marker::Model;
 #[derive(Drop)]
 pub struct Book {
     channel: Channel,
-    flows: Flows,
+    pub(crate) flows: Flows,
     // The flows that wait, by their turns, where they are known.
     queue: Queue,
     is_queued: bool,

@@ -1,8 +1,11 @@
 //! The token bucket of a flow under a rate ceiling.
 
-ghost use Rattle.std.specs.Prelude.{◌≡◌, ◌*◌, ◌/◌, ◌<◌, ◌≤◌, ◌^◌, ◌==◌, [], IsTrue, false, min};
+ghost use Rattle.std.specs.Prelude.{◌≡◌, ℕ, List, ◌*◌, ◌/◌, ◌<◌, ◌≤◌, ◌^◌, ◌==◌, [], IsTrue, false, min};
+ghost use Rattle.minislots.specs.declared.config.Config.{Config};
+ghost use Rattle.flow_book.specs.declared.flow.Grant.{Grant};
 ghost use Rattle.flow_book.specs.Bucket.{level_of, most_of, StandsFor, AnswersLevel, AnswersCeiling, HasOneMore};
 ghost use Rattle.flow_book.specs.Bucket.{IsSettled, StaysSettled, reserves};
+ghost use Rattle.flow_book.specs.FlowState.{level_after};
 ghost use Rattle.flow_book.specs.Tiers.{unlimited};
 
 use minislots::Checked;
@@ -97,6 +100,17 @@ impl Bucket {
             level: self.level,
             since: self.since,
         }
+    }
+
+    // What there was at the start of the last grant, after it: none where there is no ceiling.
+    pub(crate) fn state(&self) -> Option<u64>
+        ensures { (c : Config) (rate burst : ℕ) (grants : List Grant) → StandsFor c rate burst self.now grants
+            → IsSettled self.now grants → result ≡ level_after c rate burst grants }
+    {
+        if self.per_slot == 0 {
+            return None;
+        }
+        Some(self.level)
     }
 
     /// What there is at minislot `slot`, in 1/1280000 bytes: the least that a window of the grants leaves,

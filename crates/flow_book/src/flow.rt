@@ -66,7 +66,7 @@ const TURNS: u128 = 1 << 65;
 pub(crate) const SIDS: u128 = 1 << 16;
 
 // The turns of all SIDs of a rank.
-const RANKS: u128 = TURNS * SIDS;
+pub(crate) const RANKS: u128 = TURNS * SIDS;
 
 // The rank of a flow under its reservation: that of polled flows.
 pub(crate) const RESERVED_RANK: u8 = 8;
@@ -79,9 +79,9 @@ pub(crate) struct Flow {
     // The bytes of all requests.
     pub(crate) asked: u64,
     // The batches of its requests.
-    batches: Batches,
+    pub(crate) batches: Batches,
     // The bytes of all data grants.
-    granted: u64,
+    pub(crate) granted: u64,
     // What the data grants leave under both ceilings, and of the reservation.
     pub(crate) limits: Limits,
     pub(crate) spec: FlowSpec,

@@ -20,6 +20,7 @@ mod queue;
 mod queue_list;
 mod shown;
 mod soonest;
+mod state;
 mod taking;
 mod tiers;
 mod under;

@@ -216,10 +216,15 @@ order-instead sid f g others flows new one more is same up =
     order-with g others new more (rw (same, left) (gone sid (in_order (map placed_of flows))))
     ∙ ap (with_placed (placed_of g)) left
 
+-- where no flow of the groups has the SID none of the table has
+pub none-found : (sid : ℕ) (flows : List PlacedFlow) → AllByRecursion (λ f. (f.sid == sid) ≡ false) flows
+    → IsNotPlaced sid (in_order (map placed_of flows))
+none-found sid flows none = found-none sid (in_order (map placed_of flows))
+    (all-order (λ g. g.sid ≢ sid) (map placed_of flows) (differ sid flows none))
+
 -- where no flow has the SID none is placed
 pub none-placed : (sid : ℕ) (flows : List PlacedFlow) → AllByRecursion (λ f. (f.sid == sid) ≡ false) flows
     → IsPlaced sid (in_order (map placed_of flows)) → ⊥
 none-placed sid flows none placed =
-    let absent = found-none sid (in_order (map placed_of flows))
-    (all-order (λ g. g.sid ≢ sid) (map placed_of flows) (differ sid flows none)) in
+    let absent = none-found sid flows none in
     let both : ◌≡◌ {A = Bool} false true = rw absent at placed in absurd (cc)

@@ -4,6 +4,7 @@ pub use Rattle.sched_calls.specs.FlowSpec
 pub use Rattle.sched_calls.specs.Sids
 pub mod Placement
 pub mod Table
+pub mod PlaceState
 pub mod Choice
 pub mod Bits
 pub mod Rows

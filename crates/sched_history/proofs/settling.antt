@@ -2,3 +2,4 @@
 pub mod Heads
 pub mod SettlingAfter
 pub mod SettlesNext
+pub mod LastAcks

@@ -12,3 +12,4 @@ pub mod Building
 pub mod Following
 pub mod SameMaps
 pub mod Judging
+pub mod States

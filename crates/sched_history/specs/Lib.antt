@@ -15,6 +15,7 @@ pub mod Reserves
 pub mod Refusal
 pub mod History
 pub use Rattle.sched_calls.specs.Reply
+pub mod ChannelState
 pub mod Machine
 pub mod Answer
 pub mod Planned

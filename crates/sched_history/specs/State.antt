@@ -27,6 +27,7 @@ use Rattle.sched_history.specs.Life.{flows_of, table_of}
 use Rattle.sched_history.specs.Time.{skip_by, is_built, progress_by, next_after, progress_of}
 use Rattle.sched_history.specs.Reserves.{reserve_by, header_by, header_after, reserves_of, waiting_in, left_behind}
 use Rattle.sched_history.specs.Settling.{settling_after, is_near, settles_after}
+use Rattle.sched_history.specs.ChannelState.{last_ack}
 use Rattle.sched_history.specs.Refusal.{most_bytes, most_ahead, last_clock, refusal_of}
 use Rattle.sched_history.specs.History.{Answers, IsStep, IsLegal, IsNextMap}
 use Rattle.sched_history.specs.Planned.{PlannedBuild}
@@ -69,6 +70,7 @@ pub record IsStateAfter (s : State) (h : List Entry) : Type 0 where
   pub reserves : s.reserves ≡ reserves_of s.config h
   pub header : s.header ≡ header_after s.config h
   pub settling : s.settling ≡ settling_after s.config h
+  pub last_ack : s.last_ack ≡ last_ack s.config h
 
 -- what contracts see of a scheduler: what it does not keep of the ledger's entries was handed over
 abbrev pub machine_of : Inside → Machine

@@ -12,7 +12,7 @@ pub use fault::{AuditFault, JudgeFault, PlanFault};
 pub use map_build::{Met, meets_at};
 pub use run::{count_unrecorded, make_call, record_call};
 pub use sched_calls::{
-    Call, Entry, MAX_ENTRIES, MAX_RESERVES, MAX_SCRIPTS, MAX_WHOLE_HISTORY, Refusal, Reply,
-    Unrecorded,
+    Call, ChannelState, Entry, MAX_ENTRIES, MAX_RESERVES, MAX_SCRIPTS, MAX_WHOLE_HISTORY, Refusal,
+    Reply, Unrecorded,
 };
 pub use scheduler::{Backlog, HandedOver, Planned, Scheduler};

@@ -25,6 +25,7 @@ mod reserves;
 mod resuming;
 mod settling;
 mod state;
+mod states;
 mod under;
 
 use crate::fault::PlanFault;

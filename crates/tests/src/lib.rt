@@ -18,6 +18,8 @@ mod sched_storm_rows;
 #[cfg(test)]
 mod shared_sched_rows;
 #[cfg(test)]
+mod state_rows;
+#[cfg(test)]
 mod ticket_lock_rows;
 #[cfg(test)]
 mod worker_sched_rows;

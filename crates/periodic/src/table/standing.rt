@@ -1,9 +1,10 @@
 //! Placed flows that stay where they stand: they rest and wake, or have other parameters and are told anew.
 
-ghost use Rattle.std.specs.Prelude.{◌≡◌, ℕ, ◌^◌, ◌≤◌, ◌%◌, ◌==◌, true, false, None, find, IfSome, IfOk};
+ghost use Rattle.std.specs.Prelude.{◌≡◌, ℕ, ◌^◌, ◌≤◌, ◌%◌, ◌==◌, true, false, None, find, IfSome, IfOk, OnErr};
 ghost use Rattle.sched_calls.specs.FlowSpec.{has_place_of, first_fault};
 ghost use Rattle.periodic.specs.Placement.{IsToldFrom};
 ghost use Rattle.periodic.specs.Fields.{IsSoundFlow};
+ghost use Rattle.periodic.specs.PlaceState.{place_state_of};
 ghost use Rattle.periodic.specs.Search.{IsReference};
 ghost use Rattle.periodic.specs.Table.{placed_at, IsPlaced, HasRoomToPoll, with_placed, without, with_rest};
 
@@ -12,7 +13,7 @@ use crate::group::{flow_of, lift_out, put_in};
 use crate::search::first_nominal;
 use crate::spots::PlacedFlow;
 use minislots::Checked;
-use sched_calls::{FlowSpec, Placement, Starts};
+use sched_calls::{FlowSpec, PlaceState, Placement, Starts};
 use std::alloc::AllocError;
 
 impl Table {
@@ -66,6 +67,24 @@ impl Table {
             reference: reference_from(&self.config, flow, next),
             starts: Starts::from_vec(starts),
         })
+    }
+
+    /// The place of the flow with this SID, where it is placed, as the state of a scheduler tells it. Memory is taken for
+    /// its starts alone.
+    pub fn place_state(&self, sid: u16) -> Result<Option<PlaceState>, AllocError>
+        ensures value { IfOk result (λ place. place ≡ place_state_of self.now.config sid self.now.placed) }
+        ensures memory { OnErr result (IsPlaced sid self.now.placed) }
+    {
+        let Some(flow) = flow_of(&self.groups, sid) else {
+            return Ok(None);
+        };
+        let starts = Vec::from_slice(*self.groups.allocator(), flow.placement.starts.as_slice())?;
+        Ok(Some(PlaceState {
+            phase: flow.phase,
+            offset: flow.placement.reference % u64::from(self.config.frame()),
+            starts: Starts::from_vec(starts),
+            rests: flow.rests,
+        }))
     }
 
     /// Whether this is the placement of a placed flow, told from the start of a frame on for parameters by which it may

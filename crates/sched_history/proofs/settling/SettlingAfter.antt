@@ -56,7 +56,8 @@ settling_in-push first maps m =
     ∙ last-change (m.wire.ucd_count == count_behind first maps) m.start (changes_in first maps) in
     rw (count, change) refl
 
-unbuilt : (reply : Reply) → is_built reply ≡ false → map_by reply ≡ None
+-- a reply without a MAP
+pub unbuilt : (reply : Reply) → is_built reply ≡ false → map_by reply ≡ None
 unbuilt (replies.Built m) none = absurd cc
 unbuilt reply none = refl
 

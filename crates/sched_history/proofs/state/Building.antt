@@ -43,11 +43,16 @@ take-counted f first (suc n) (x ∷ xs) within is =
 -- flows with SIDs within these bounds are those that a channel may have
 
 module _ (s : State) (h : List Entry) (is_after : IsStateAfter s h) where
-  -- the acknowledge time is the least progress that is kept
-  pub ack-after : least (take s.config.receivers s.progress) ≡ ack_after s.config h
-  ack-after = ap least (take-counted (λ receiver. progress_of s.config receiver h) 0 s.config.receivers s.progress
+  -- the progress that is kept is that of each receiver
+  pub progress-after : take s.config.receivers s.progress
+      ≡ map (λ receiver. progress_of s.config receiver h) (count_from 0 s.config.receivers)
+  progress-after = take-counted (λ receiver. progress_of s.config receiver h) 0 s.config.receivers s.progress
       (omega (arith, is_after.places, (bounds_of s.config is_after.lawful).receivers_most))
-      (λ receiver below. is_after.progress receiver below ∙ ap (λ n. progress_of s.config n h) (omega arith)))
+      (λ receiver below. is_after.progress receiver below ∙ ap (λ n. progress_of s.config n h) (omega arith))
+
+  -- the acknowledge time is the least of it
+  pub ack-after : least (take s.config.receivers s.progress) ≡ ack_after s.config h
+  ack-after = ap least progress-after
 
   -- what the next frame has to serve, by what is kept, is what it has after the history
   pub next_demand-after : IsLegal s.config h → next_demand s ≡ demand_after s.config h

@@ -16,6 +16,7 @@ use Rattle.sched_history.proofs.time.TimeAfter.{next_after-same, progress_of-sam
 use Rattle.sched_history.proofs.reserves.ReservesAfter.{reserves_of-same}
 use Rattle.sched_history.proofs.reserves.HeaderAfter.{header_after-same}
 use Rattle.sched_history.proofs.settling.SettlingAfter.{settling_after-same}
+use Rattle.sched_history.proofs.settling.LastAcks.{last_ack-same}
 
 module _ (s : State) (h : List Entry) (is_after : IsStateAfter s h) (stamp : Stamp) (sid : ℕ) (spec : FlowSpec)
     (life : Life) (lives : life_of sid h ≡ Some life) where
@@ -42,6 +43,7 @@ module _ (s : State) (h : List Entry) (is_after : IsStateAfter s h) (stamp : Sta
         reserves = is_after.reserves ∙ sym (reserves_of-same s.config h e refl refl);
         header = is_after.header ∙ sym (header_after-same s.config h e refl);
         settling = is_after.settling ∙ sym (settling_after-same s.config h e refl);
+        last_ack = is_after.last_ack ∙ sym (last_ack-same s.config h e refl);
       }
 
   -- and without one
@@ -66,4 +68,5 @@ module _ (s : State) (h : List Entry) (is_after : IsStateAfter s h) (stamp : Sta
         reserves = is_after.reserves ∙ sym (reserves_of-same s.config h e refl refl);
         header = is_after.header ∙ sym (header_after-same s.config h e refl);
         settling = is_after.settling ∙ sym (settling_after-same s.config h e refl);
+        last_ack = is_after.last_ack ∙ sym (last_ack-same s.config h e refl);
       }

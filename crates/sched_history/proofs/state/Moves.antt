@@ -39,6 +39,7 @@ use Rattle.sched_history.proofs.time.TimeAfter.{progress_of-same, progress_of-no
 use Rattle.sched_history.proofs.reserves.ReservesAfter.{reserves_of-push, reserves_of-same}
 use Rattle.sched_history.proofs.reserves.HeaderAfter.{header_after-same, header_after-set}
 use Rattle.sched_history.proofs.settling.SettlingAfter.{settling_after-same, settling_after-built}
+use Rattle.sched_history.proofs.settling.LastAcks.{last_ack-same, last_ack-built}
 
 -- a note is of its receiver alone
 noted : (receiver upto : ℕ) → (if receiver == receiver then Some upto else None) ≡ Some upto
@@ -78,6 +79,7 @@ module _ (s : State) (h : List Entry) (is_after : IsStateAfter s h) (stamp : Sta
         reserves = is_after.reserves ∙ sym (reserves_of-same s.config h e quiet.reserves quiet.builds);
         header = is_after.header ∙ sym (header_after-same s.config h e quiet.headers);
         settling = is_after.settling ∙ sym (settling_after-same s.config h e quiet.builds);
+        last_ack = is_after.last_ack ∙ sym (last_ack-same s.config h e quiet.builds);
       }
 
   -- after a request
@@ -100,6 +102,7 @@ module _ (s : State) (h : List Entry) (is_after : IsStateAfter s h) (stamp : Sta
         reserves = is_after.reserves ∙ sym (reserves_of-same s.config h e refl refl);
         header = is_after.header ∙ sym (header_after-same s.config h e refl);
         settling = is_after.settling ∙ sym (settling_after-same s.config h e refl);
+        last_ack = is_after.last_ack ∙ sym (last_ack-same s.config h e refl);
       }
 
   -- after a request that replaces others
@@ -123,6 +126,7 @@ module _ (s : State) (h : List Entry) (is_after : IsStateAfter s h) (stamp : Sta
         reserves = is_after.reserves ∙ sym (reserves_of-same s.config h e refl refl);
         header = is_after.header ∙ sym (header_after-same s.config h e refl);
         settling = is_after.settling ∙ sym (settling_after-same s.config h e refl);
+        last_ack = is_after.last_ack ∙ sym (last_ack-same s.config h e refl);
       }
 
   -- after a rest
@@ -144,6 +148,7 @@ module _ (s : State) (h : List Entry) (is_after : IsStateAfter s h) (stamp : Sta
         reserves = is_after.reserves ∙ sym (reserves_of-same s.config h e refl refl);
         header = is_after.header ∙ sym (header_after-same s.config h e refl);
         settling = is_after.settling ∙ sym (settling_after-same s.config h e refl);
+        last_ack = is_after.last_ack ∙ sym (last_ack-same s.config h e refl);
       }
 
   -- after a wake
@@ -165,6 +170,7 @@ module _ (s : State) (h : List Entry) (is_after : IsStateAfter s h) (stamp : Sta
         reserves = is_after.reserves ∙ sym (reserves_of-same s.config h e refl refl);
         header = is_after.header ∙ sym (header_after-same s.config h e refl);
         settling = is_after.settling ∙ sym (settling_after-same s.config h e refl);
+        last_ack = is_after.last_ack ∙ sym (last_ack-same s.config h e refl);
       }
 
   -- after a removal
@@ -188,6 +194,7 @@ module _ (s : State) (h : List Entry) (is_after : IsStateAfter s h) (stamp : Sta
         reserves = is_after.reserves ∙ sym (reserves_of-same s.config h e refl refl);
         header = is_after.header ∙ sym (header_after-same s.config h e refl);
         settling = is_after.settling ∙ sym (settling_after-same s.config h e refl);
+        last_ack = is_after.last_ack ∙ sym (last_ack-same s.config h e refl);
       } in
       rw same after
 
@@ -212,6 +219,7 @@ module _ (s : State) (h : List Entry) (is_after : IsStateAfter s h) (stamp : Sta
         reserves = is_after.reserves ∙ sym (reserves_of-same s.config h e refl refl);
         header = is_after.header ∙ sym (header_after-same s.config h e refl);
         settling = is_after.settling ∙ sym (settling_after-same s.config h e refl);
+        last_ack = is_after.last_ack ∙ sym (last_ack-same s.config h e refl);
       }
 
   -- after an admission with a place
@@ -240,6 +248,7 @@ module _ (s : State) (h : List Entry) (is_after : IsStateAfter s h) (stamp : Sta
         reserves = is_after.reserves ∙ sym (reserves_of-same s.config h e refl refl);
         header = is_after.header ∙ sym (header_after-same s.config h e refl);
         settling = is_after.settling ∙ sym (settling_after-same s.config h e refl);
+        last_ack = is_after.last_ack ∙ sym (last_ack-same s.config h e refl);
       } in
       rw same after
 
@@ -267,6 +276,7 @@ module _ (s : State) (h : List Entry) (is_after : IsStateAfter s h) (stamp : Sta
         reserves = is_after.reserves ∙ sym (reserves_of-same s.config h e refl refl);
         header = is_after.header ∙ sym (header_after-same s.config h e refl);
         settling = is_after.settling ∙ sym (settling_after-same s.config h e refl);
+        last_ack = is_after.last_ack ∙ sym (last_ack-same s.config h e refl);
       }
 
   -- after a skip
@@ -286,6 +296,7 @@ module _ (s : State) (h : List Entry) (is_after : IsStateAfter s h) (stamp : Sta
         reserves = is_after.reserves ∙ sym (reserves_of-same s.config h e refl refl);
         header = is_after.header ∙ sym (header_after-same s.config h e refl);
         settling = is_after.settling ∙ sym (settling_after-same s.config h e refl);
+        last_ack = is_after.last_ack ∙ sym (last_ack-same s.config h e refl);
       }
 
   -- after a MAP of the next frame, where the flows and the Reserves are those after it
@@ -296,7 +307,13 @@ module _ (s : State) (h : List Entry) (is_after : IsStateAfter s h) (stamp : Sta
       → reserves ≡ reserves_of s.config (h ++ record { stamp = stamp; call = calls.Build now; reply = replies.Built m } ∷ [])
       → m.start ≡ s.next → settling ≡ settling_with m.wire.ucd_count s.next s.settling
       → IsStateAfter
-      (record s { book = book; next = s.next + s.config.frame; reserves = reserves; settling = settling })
+      (record s {
+        book = book;
+        next = s.next + s.config.frame;
+        reserves = reserves;
+        settling = settling;
+        last_ack = m.ack;
+      })
       (h ++ record { stamp = stamp; call = calls.Build now; reply = replies.Built m } ∷ [])
   IsStateAfter-built now m book reserves settling book_config flows left starts follows =
       let e : Entry = entry (calls.Build now) (replies.Built m) in
@@ -314,6 +331,7 @@ module _ (s : State) (h : List Entry) (is_after : IsStateAfter s h) (stamp : Sta
         settling = follows ∙ ap (λ n. settling_with m.wire.ucd_count n s.settling) (sym starts)
             ∙ ap (settling_with m.wire.ucd_count m.start) is_after.settling
             ∙ sym (settling_after-built s.config h e m refl);
+        last_ack = sym (last_ack-built s.config h e m refl);
       }
 
   -- after a Reserve
@@ -335,6 +353,7 @@ module _ (s : State) (h : List Entry) (is_after : IsStateAfter s h) (stamp : Sta
             ∙ sym (reserves_of-push s.config h e);
         header = is_after.header ∙ sym (header_after-same s.config h e refl);
         settling = is_after.settling ∙ sym (settling_after-same s.config h e refl);
+        last_ack = is_after.last_ack ∙ sym (last_ack-same s.config h e refl);
       }
 
   -- after a header
@@ -354,4 +373,5 @@ module _ (s : State) (h : List Entry) (is_after : IsStateAfter s h) (stamp : Sta
         reserves = is_after.reserves ∙ sym (reserves_of-same s.config h e refl refl);
         header = sym (header_after-set s.config h e header refl);
         settling = is_after.settling ∙ sym (settling_after-same s.config h e refl);
+        last_ack = is_after.last_ack ∙ sym (last_ack-same s.config h e refl);
       }

@@ -30,8 +30,9 @@ pub IsStateAfter-open : (s : State) → IsLawful s.config → s.book.config ≡ 
     → s.table.config ≡ s.config
     → s.table.placed ≡ [] → s.next ≡ s.config.start
     → s.progress ≡ replicate 16 s.config.start → s.reserves ≡ [] → s.header ≡ header_of s.config
-    → s.settling ≡ record { count = s.config.ucd_count; change = None } → IsStateAfter s []
-IsStateAfter-open s lawful book_config flows table_config placed next progress reserves header settling =
+    → s.settling ≡ record { count = s.config.ucd_count; change = None } → s.last_ack ≡ s.config.start
+    → IsStateAfter s []
+IsStateAfter-open s lawful book_config flows table_config placed next progress reserves header settling ack =
     let bounds = bounds_of s.config lawful in
     record {
       lawful = lawful;
@@ -47,6 +48,7 @@ IsStateAfter-open s lawful book_config flows table_config placed next progress r
       reserves = reserves;
       header = header;
       settling = settling;
+      last_ack = ack;
     }
 
 -- A scheduler without entries is sound, where its fields stand for the empty history

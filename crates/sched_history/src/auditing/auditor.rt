@@ -4,6 +4,7 @@ ghost use Rattle.std.specs.Prelude.{◌≡◌, ◌<◌, ◌≤◌, ◌↔◌, �
 ghost use Rattle.std.specs.Prelude.{ℕ, slice_index, IfOk, IfErr, OnOk, OnErr, IsErrOf};
 ghost use Rattle.sched_calls.specs.declared.call.TheConstants.{MAX_RESERVES};
 ghost use Rattle.sched_calls.specs.declared.reply.TheConstants.{MAX_WHOLE_HISTORY};
+ghost use Rattle.sched_history.specs.ChannelState.{state_of};
 ghost use Rattle.sched_history.specs.Facts.{under_by};
 ghost use Rattle.sched_history.specs.History.{IsStep, IsLegal};
 ghost use Rattle.sched_calls.specs.Reply.{IsEncodable};
@@ -18,7 +19,7 @@ use crate::ledger::Ledger;
 use crate::scheduler::{Present, Scheduler, State};
 use map_build::Met;
 use minislots::Checked;
-use sched_calls::{Call, Entry, MAX_WHOLE_HISTORY, Reply};
+use sched_calls::{Call, ChannelState, Entry, MAX_WHOLE_HISTORY, Reply};
 use std::alloc::{AllocError, Global};
 use std::marker::Model;
 
@@ -139,6 +140,17 @@ impl Auditor {
     {
         let progress = self.state.progress;
         progress
+    }
+
+    /// The state after the entries that were taken: what the replies after them depend on.
+    pub fn state(&self) -> Result<ChannelState, AllocError>
+        ensures { IfOk result (λ state. state ≡ state_of self.now.config self.now.history) }
+    {
+        let present = Present {
+            state: &self.state,
+            ledger: &self.ledger,
+        };
+        present.state(self.alloc)
     }
 
     /// How many entries were taken.

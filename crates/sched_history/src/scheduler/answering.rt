@@ -264,6 +264,7 @@ impl State {
         self.book.take_in(overlay);
         self.reserves.follow(settles, &met);
         self.settling.follow(map.wire.ucd_count, self.next);
+        self.last_ack = map.ack;
         self.next += u64::from(self.config.frame());
         Reply::Built(map)
     }

@@ -1,13 +1,14 @@
 //! The Reserves that are neither met nor lapsed, in a fixed room.
 
 ghost use Rattle.std.specs.Prelude.{◌≡◌, ◌<◌, ◌≤◌, ◌+◌, ◌++◌, ◌∷◌, [], false, map, take, drop, length, nat_le, get_or};
-ghost use Rattle.std.specs.Prelude.{not, ◌&&◌, if◌then◌else◌};
+ghost use Rattle.std.specs.Prelude.{not, ◌&&◌, if◌then◌else◌, option_map, slice_get, Some};
 ghost use Rattle.sched_calls.specs.declared.call.TheConstants.{MAX_RESERVES};
 ghost use Rattle.map_build.specs.declared.TheConstants.{MAX_WAITING};
+ghost use Rattle.sched_history.specs.ChannelState.{reserve_state};
 ghost use Rattle.sched_history.specs.Reserves.{new_reserve, aged, left_of, unmarked, is_last, lapses_of};
 
 use map_build::MAX_WAITING;
-use sched_calls::{MAX_RESERVES, Opportunity, Usage};
+use sched_calls::{MAX_RESERVES, Opportunity, ReserveState, Usage};
 use std::marker::Model;
 
 // The MAPs that do not settle after which a Reserve has lapsed.
@@ -109,6 +110,19 @@ impl Reserves {
         ensures most { result ≤ MAX_RESERVES }
     {
         self.count
+    }
+
+    // That at this place, from 0, as a state tells it.
+    pub(crate) fn state_at(&self, place: usize) -> ReserveState
+        requires within { place < length self.now }
+        requires room { place < MAX_RESERVES }
+        ensures { option_map reserve_state (slice_get self.now place) ≡ Some result }
+    {
+        let reserve = self.items[place];
+        ReserveState {
+            opportunity: reserve.opportunity,
+            maps: reserve.maps,
+        }
     }
 
     // One more, behind the others.

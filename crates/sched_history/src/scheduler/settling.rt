@@ -9,8 +9,8 @@ use minislots::Checked;
 // The UCD count of the last MAP, or the configuration's, and where the last MAP starts that changed it.
 #[derive(Clone, Copy)]
 pub(crate) struct Settling {
-    count: u8,
-    change: Option<u64>,
+    pub(crate) count: u8,
+    pub(crate) change: Option<u64>,
 }
 
 impl Settling {

@@ -49,6 +49,8 @@ pub(crate) struct State {
     pub(crate) header: Header,
     // By which MAPs settle.
     pub(crate) settling: Settling,
+    // The acknowledge time of the last MAP, or the configuration's start.
+    pub(crate) last_ack: u64,
 }
 
 // A placement as the answer that is handed out, where one is asked for.
@@ -99,6 +101,7 @@ impl State {
             reserves: Reserves::none(),
             header: Header::of(&config),
             settling: Settling::of(&config),
+            last_ack: start,
         })
     }
 
