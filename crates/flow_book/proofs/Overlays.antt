@@ -42,7 +42,7 @@ use Rattle.sched_calls.proofs.Removal.{all-filter}
 use Rattle.flow_book.proofs.Once.{all-insert, in-inserted, in-still, once-insert}
 use Rattle.flow_book.proofs.Serving.{StandsIn, stands-at-place, kept-of}
 use Rattle.flow_book.proofs.StillWaiting.{all-at, order-in}
-use Rattle.flow_book.proofs.Sums.{last-more, last-started, bytes-added}
+use Rattle.flow_book.proofs.Sums.{last-more, last-behind, last-started, bytes-added}
 use Rattle.flow_book.proofs.Windows.{one_more}
 
 pub same-all : (flows : List LiveFlow) → AllZip IsSameFlow flows flows
@@ -269,6 +269,7 @@ module _ (c : Config) (items : List Flow) (tiers after : List Tier) (queue serve
           (granted.turn (top_rank f.spec) (last_start f.grants.items) f.sid
           (subst (IsTurn (top_rank f.spec) (last_start f.grants.items) f.sid) stands.turn stands.keeps.turn.1)),
     );
+    last = last-behind f.grants.items (record { start = start; bytes = bytes }) stands.started;
     periods = periods-more c (live f) (record { start = start; bytes = bytes }) stands.keeps.periods;
     limits = limits-more c (live f) (limits_in tiers w) (limits_in after new) start bytes stands.keeps.periods
         stands.started (subst (AreLimitsOf c (live f)) stands.limits stands.keeps.limits)

@@ -8,9 +8,9 @@ use Rattle.flow_book.specs.declared.flow.Grant.{Grant}
 use Rattle.flow_book.specs.Flows.{bytes_of}
 use Rattle.flow_book.specs.Ceiling.{start_of}
 use Rattle.flow_book.specs.Entry.{IsTurn}
-use Rattle.flow_book.specs.Bucket.{BucketView, level_of, LeaveAtLeast, IsLevel, StandsFor, IsSettled}
+use Rattle.flow_book.specs.Bucket.{BucketView, level_of, LeaveAtLeast, IsLevel, StandsFor, HaveStartedBy}
 use Rattle.flow_book.specs.FlowState.{left_at, level_after}
-use Rattle.flow_book.proofs.Buckets.{no-ceiling, some-ceiling, level-now}
+use Rattle.flow_book.proofs.Buckets.{no-ceiling, some-ceiling}
 
 -- the start in a turn is a minislot
 pub start-fits : (rank : ℕ) (last : Option ℕ) (sid turn : ℕ) → IsTurn rank last sid turn
@@ -54,20 +54,18 @@ module _ (c : Config) (rate burst slot : ℕ) where
       (record { empty = least-burst grants; each = least-each grants level is.left }) in
       omega (arith, more, leave-least grants level is.left)
 
-module _ (c : Config) (rate burst : ℕ) (b : BucketView) (grants : List Grant) (stands : StandsFor c rate burst b grants)
-    (settled : IsSettled b grants) where
+module _ (c : Config) (rate burst slot : ℕ) (b : BucketView) (grants : List Grant)
+    (stands : StandsFor c rate burst b grants) where
   -- a bucket without a ceiling has no level
-  pub level-none : b.per_slot ≡ 0 → None ≡ level_after c rate burst grants
+  pub level-none : b.per_slot ≡ 0 → None ≡ level_after c rate burst slot grants
   level-none none =
       let free : (rate == 0) ≡ true = grind (arith, nat_tests, no-ceiling c rate burst b grants stands none) in
       rw free refl
 
-  -- another keeps the level of its grants
-  pub level-kept : 0 < b.per_slot → Some b.level ≡ level_after c rate burst grants
-  level-kept some =
+  -- another has that of its grants at each minislot by which they have started
+  pub level-kept : 0 < b.per_slot → HaveStartedBy slot grants
+      → Some (level_of b slot) ≡ level_after c rate burst slot grants
+  level-kept some started =
       let limited = some-ceiling c rate burst b grants stands some in
       let fails : (rate == 0) ≡ false = grind (arith, nat_tests, limited) in
-      let level = stands.level limited b.since (settled.started some) in
-      let least = sym (level-now b b.since settled.level refl)
-      ∙ level-least c rate burst b.since grants (level_of b b.since) level in
-      rw fails (ap (λ n. Some n) (least ∙ ap (λ slot. left_at c rate burst slot grants) (settled.last some)))
+      rw fails (ap Some (level-least c rate burst slot grants (level_of b slot) (stands.level limited slot started)))

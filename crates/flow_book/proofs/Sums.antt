@@ -1,6 +1,6 @@
 -- What flows keep beside their grants stays theirs.
 use Rattle.std.proofs.Common.{◌≡◌, true, refl, sym, ap, ◌∙◌, subst, ℕ, zero, suc, ◌+◌, ◌<◌, ◌==◌, List, [], ◌∷◌, ◌++◌}
-use Rattle.std.proofs.Common.{◌≤◌, Some, length, get_or, set}
+use Rattle.std.proofs.Common.{◌≤◌, Some, length, get_or, set, arith}
 use Rattle.std.specs.List.{AllByRecursion, insert}
 use Rattle.std.specs.Option.{IfSome}
 use Rattle.std.proofs.lemmas.List.Elements.{All-from_recursion}
@@ -14,12 +14,13 @@ use Rattle.flow_book.specs.Bucket.{HaveStartedBy}
 use Rattle.flow_book.specs.Flows.{LiveFlow, bytes_of, granted}
 use Rattle.flow_book.specs.Reserved.{with_grant}
 use Rattle.flow_book.specs.Book.{with_spec}
-use Rattle.flow_book.specs.Choice.{last_start, MayGrant, KeepsWith}
+use Rattle.flow_book.specs.Choice.{last_start, last_slot, MayGrant, KeepsWith}
 use Rattle.flow_book.specs.Entry.{live, asked_more, asked_instead, IsSoundFlow, KeepsSums, IsCopy, IsBook}
 use Rattle.sched_calls.proofs.Insertion.{all-set}
 use Rattle.flow_book.proofs.Changes.{placed-sound, placed-is_sound, asked-sound, replaced-sound, granted-sound}
 use Rattle.flow_book.proofs.Windows.{one_more, bytes-one}
 use Rattle.flow_book.proofs.Places.{StandsAt, all-found}
+use Rattle.flow_book.proofs.Started.{started-push}
 
 -- one grant more is the last
 pub last-more : (grants : List Grant) (g : Grant) → last_start (grants ++ g ∷ []) ≡ Some g.start
@@ -33,6 +34,11 @@ pub last-started : (slot : ℕ) (grants : List Grant) → HaveStartedBy slot gra
 last-started slot [] all = tt
 last-started slot (g ∷ []) all = all.0
 last-started slot (g ∷ h ∷ grants) all = last-started slot (h ∷ grants) all.1
+
+-- where all have started by one grant more none starts behind the last
+pub last-behind : (grants : List Grant) (g : Grant) → HaveStartedBy g.start grants
+    → HaveStartedBy (last_slot (grants ++ g ∷ [])) (grants ++ g ∷ [])
+last-behind grants g all = rw (last-more grants g) (started-push g.start grants g all (omega arith))
 
 -- and its bytes are added
 pub bytes-added : (grants : List Grant) (start n : ℕ) → bytes_of (grants ++ one_more start n) ≡ bytes_of grants + n
@@ -64,6 +70,7 @@ copy-sums c f g is keeps =
       asks = rw (asked, spec) keeps.asks;
       granted = is.granted ∙ keeps.granted ∙ ap bytes_of (sym grants);
       turn = rw (spec, grants, sid, is.turn) keeps.turn;
+      last = rw grants keeps.last;
       periods = rw is.same keeps.periods;
       limits = rw (is.same, is.limits) keeps.limits;
       settled = rw (is.same, is.limits) keeps.settled;
@@ -95,6 +102,7 @@ asked-book c sid bytes heard items i f are is takes =
       asks = λ some. takes;
       granted = keeps.granted;
       turn = keeps.turn;
+      last = keeps.last;
       periods = record {
         sustained = keeps.periods.sustained;
         peak = keeps.periods.peak;
@@ -124,6 +132,7 @@ replaced-book c sid bytes heard items i f are is takes =
       asks = λ some. takes;
       granted = keeps.granted;
       turn = keeps.turn;
+      last = keeps.last;
       periods = record {
         sustained = keeps.periods.sustained;
         peak = keeps.periods.peak;

@@ -1,6 +1,6 @@
 -- Which flow a data grant goes to, and how many bytes it has.
 use Rattle.std.specs.Prelude.{◌≡◌, ℕ, ◌<◌, ◌≤◌, min, Bool, true, false, ◌&&◌, ◌||◌, nat_lt, ◌==◌, ◌⊎◌, List, [], ◌∷◌}
-use Rattle.std.specs.Prelude.{◌++◌, Contains, Option, None, Some, IsSomeAnd}
+use Rattle.std.specs.Prelude.{◌++◌, Contains, Option, None, Some, IsSomeAnd, unwrap_or}
 use Rattle.std.specs.List.{AllByRecursion}
 use Rattle.minislots.specs.declared.config.Config.{Config}
 use Rattle.minislots.specs.Units.{slots_for}
@@ -58,6 +58,10 @@ abbrev pub last_start : List Grant → Option ℕ
 last_start [] = None
 last_start (g ∷ []) = Some g.start
 last_start (g ∷ next ∷ grants) = last_start (next ∷ grants)
+
+-- the same minislot, or 0 where there is no grant
+abbrev pub last_slot : List Grant → ℕ
+last_slot grants = unwrap_or (last_start grants) 0
 
 -- whether the first of two flows had its last grant earlier than the second: the start of each one's last grant, or
 -- none where it had no grant yet, which counts as earlier than any start

@@ -12,7 +12,8 @@ use Rattle.sched_calls.specs.declared.spec.TheConstants.{PEAK_BURST}
 use Rattle.flow_book.specs.Batches.{with_request}
 use Rattle.flow_book.specs.Flows.{LiveFlow, bytes_of, granted, in_period, in_peak_period, in_reserved_period}
 use Rattle.flow_book.specs.Ceiling.{KeepsCeiling}
-use Rattle.flow_book.specs.Choice.{last_start}
+use Rattle.flow_book.specs.Choice.{last_start, last_slot}
+use Rattle.flow_book.specs.Bucket.{HaveStartedBy}
 use Rattle.flow_book.specs.Limits.{HasPeriods, AreLimitsOf, AreSettled}
 use Rattle.flow_book.specs.Book.{Room, Ascend}
 
@@ -74,12 +75,13 @@ abbrev pub turn_in : ℕ → ℕ → ℕ
 turn_in rank turn = (255 - rank) * 2 ^ 81 + turn % 2 ^ 81
 
 -- what a flow keeps beside its grants is theirs: their bytes, its turn after the last one, and the bucket of each of
--- its ceilings and of its reservation that stands for those of the present period of that and is settled by them; and only a flow that takes
--- requests has asked for bytes
+-- its ceilings and of its reservation that stands for those of the present period of that and is settled by them; none
+-- of them starts behind the last one; and only a flow that takes requests has asked for bytes
 pub record KeepsSums (c : Config) (f : Flow) : Type 0 where
   pub asks : 0 < f.asked → takes_requests f.spec ≡ true
   pub granted : f.granted ≡ bytes_of f.grants.items
   pub turn : KnowsTurn f
+  pub last : HaveStartedBy (last_slot f.grants.items) f.grants.items
   pub periods : HasPeriods (live f)
   pub limits : AreLimitsOf c (live f) f.limits
   pub settled : AreSettled (live f) f.limits

@@ -1,5 +1,5 @@
 -- What the state of a scheduler tells of a live flow, but for its place.
-use Rattle.std.specs.Prelude.{ℕ, ◌+◌, ◌-◌, ◌*◌, ◌==◌, min, List, [], ◌∷◌, length, Option, None, Some, unwrap_or}
+use Rattle.std.specs.Prelude.{ℕ, ◌+◌, ◌-◌, ◌*◌, ◌==◌, min, List, [], ◌∷◌, Option, None, Some, unwrap_or}
 use Rattle.std.specs.Prelude.{if◌then◌else◌}
 use Rattle.minislots.specs.declared.config.Config.{Config}
 use Rattle.sched_calls.specs.FlowSpec.{rate_of, burst_of, peak_of, reserved_of, reserved_burst_of}
@@ -9,8 +9,7 @@ use Rattle.sched_calls.specs.declared.state.FlowState.{FlowState}
 use Rattle.flow_book.specs.declared.batches.Batches.{Batches}
 use Rattle.flow_book.specs.declared.flow.Grant.{Grant}
 use Rattle.flow_book.specs.Batches.{is_over}
-use Rattle.flow_book.specs.Ceiling.{start_of}
-use Rattle.flow_book.specs.Choice.{last_start}
+use Rattle.flow_book.specs.Choice.{last_start, last_slot}
 use Rattle.flow_book.specs.Flows.{LiveFlow, bytes_of, granted, in_period, in_peak_period, in_reserved_period}
 
 -- the least that is left at a minislot of a burst, in 1/1280000 bytes, by the windows of these grants that end with the
@@ -22,11 +21,10 @@ left_at c rate burst slot (g ∷ grants) = min
     (slot * c.ticks * rate + 1280000 * burst - (1280000 * bytes_of (g ∷ grants) + g.start * c.ticks * rate))
     (left_at c rate burst slot grants)
 
--- the level of grants under a rate and a burst: what they leave where the last of them starts, and where there is none
--- the burst. A rate of 0 has none
-abbrev pub level_after : Config → ℕ → ℕ → List Grant → Option ℕ
-level_after c rate burst grants = if rate == 0 then None
-    else Some (left_at c rate burst (start_of grants (length grants - 1)) grants)
+-- the level of grants under a rate and a burst at a minislot: what they leave there, and where there is none the burst.
+-- A rate of 0 has none
+abbrev pub level_after : Config → ℕ → ℕ → ℕ → List Grant → Option ℕ
+level_after c rate burst slot grants = if rate == 0 then None else Some (left_at c rate burst slot grants)
 
 -- the batches of a flow that asked and was granted so many bytes: where all of the first are granted the second is the
 -- first, and where none is outstanding there is none
@@ -35,7 +33,9 @@ batch_state b asked granted = if asked == granted then None
     else if is_over b granted then Some (record { end = asked; first = unwrap_or b.second b.first; second = None })
     else Some (record { end = b.end; first = b.first; second = b.second })
 
--- a live flow, each level of it by the grants of the present period that count for it
+-- a live flow. A level is by the grants that count for it in its present period, and each of the three is the one at
+-- the start of the flow's last data grant, whether or not that counts: the state tells no other start from which on a
+-- rate brings bytes
 abbrev pub flow_state : Config → LiveFlow → FlowState
 flow_state c f = record {
   sid = f.sid;
@@ -43,9 +43,10 @@ flow_state c f = record {
   asked = f.asked;
   granted = granted f;
   last = last_start f.grants;
-  sustained = level_after c (rate_of f.spec) (burst_of f.spec) (in_period f);
-  peak = level_after c (peak_of f.spec) PEAK_BURST (in_peak_period f);
-  reserved = level_after c (reserved_of f.spec) (reserved_burst_of f.spec) (in_reserved_period f);
+  sustained = level_after c (rate_of f.spec) (burst_of f.spec) (last_slot f.grants) (in_period f);
+  peak = level_after c (peak_of f.spec) PEAK_BURST (last_slot f.grants) (in_peak_period f);
+  reserved = level_after c (reserved_of f.spec) (reserved_burst_of f.spec) (last_slot f.grants)
+      (in_reserved_period f);
   batches = batch_state f.batches f.asked (granted f);
   place = None;
 }

@@ -4,7 +4,7 @@ ghost use Rattle.std.specs.Prelude.{◌≡◌, ℕ, List, ◌*◌, ◌/◌, ◌<
 ghost use Rattle.minislots.specs.declared.config.Config.{Config};
 ghost use Rattle.flow_book.specs.declared.flow.Grant.{Grant};
 ghost use Rattle.flow_book.specs.Bucket.{level_of, most_of, StandsFor, AnswersLevel, AnswersCeiling, HasOneMore};
-ghost use Rattle.flow_book.specs.Bucket.{IsSettled, StaysSettled, reserves};
+ghost use Rattle.flow_book.specs.Bucket.{HaveStartedBy, IsSettled, StaysSettled, reserves};
 ghost use Rattle.flow_book.specs.FlowState.{level_after};
 ghost use Rattle.flow_book.specs.Tiers.{unlimited};
 
@@ -102,15 +102,16 @@ impl Bucket {
         }
     }
 
-    // What there was at the start of the last grant, after it: none where there is no ceiling.
-    pub(crate) fn state(&self) -> Option<u64>
+    // What there is at this minislot: none where there is no ceiling.
+    pub(crate) fn state(&self, slot: u64) -> Option<u64>
+        requires { self.now.since ≤ slot }
         ensures { (c : Config) (rate burst : ℕ) (grants : List Grant) → StandsFor c rate burst self.now grants
-            → IsSettled self.now grants → result ≡ level_after c rate burst grants }
+            → HaveStartedBy slot grants → result ≡ level_after c rate burst slot grants }
     {
         if self.per_slot == 0 {
             return None;
         }
-        Some(self.level)
+        Some(self.level(slot))
     }
 
     /// What there is at minislot `slot`, in 1/1280000 bytes: the least that a window of the grants leaves,

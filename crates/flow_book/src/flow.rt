@@ -403,7 +403,7 @@ impl Flow {
         ensures sums { (c : Config) → is_reserved ≡ is_under c start (live self.old)
             → (0 < self.old.asked → takes_requests self.old.spec ≡ true)
             → self.old.granted ≡ granted (live self.old) → KnowsTurn self.old
-            → HasPeriods (live self.old)
+            → HasStartedBy start (live self.old) → HasPeriods (live self.old)
             → AreLimitsOf c (with_grant c (record { start = start; bytes = bytes }) (live self.old)) self.old.limits
             → AreSettled (with_grant c (record { start = start; bytes = bytes }) (live self.old)) self.old.limits
             → KeepsSums c self.new }

@@ -27,15 +27,17 @@ impl Flow {
         requires { (c : Config) × KeepsSums c self.now }
         ensures { (c : Config) → KeepsSums c self.now → result ≡ flow_state c (live self.now) }
     {
+        let last = last_start(self.turn);
+        let slot = last.unwrap_or(0);
         FlowState {
             sid: self.sid,
             spec: self.spec,
             asked: self.asked,
             granted: self.granted,
-            last: last_start(self.turn),
-            sustained: self.limits.sustained.state(),
-            peak: self.limits.peak.state(),
-            reserved: self.limits.reserved.state(),
+            last,
+            sustained: self.limits.sustained.state(slot),
+            peak: self.limits.peak.state(slot),
+            reserved: self.limits.reserved.state(slot),
             batches: self.batches.state(self.asked, self.granted),
             place: None,
         }

@@ -31,8 +31,9 @@ pub struct PlaceState {
     pub rests: bool,
 }
 
-/// A live flow. Levels are what the rate rule leaves where the last data grant starts that counts for them, in 1/1280000
-/// bytes: none where the rate is 0, and all of the burst where no grant counts.
+/// A live flow. Its levels are what the rate rules leave of their bursts at the start of the flow's last data grant, be
+/// it one that counts for them or not, after the grants that count for each in its present period. They are in
+/// 1/1280000 bytes: none where the rate is 0, and all of the burst where no grant counts.
 #[derive(Debug, Drop)]
 pub struct FlowState {
     /// Its SID.

@@ -2,9 +2,9 @@
 
 use crate::base::BASE;
 use minislots::Stamp;
-use sched_calls::{Amount, BatchState, FlowSpec, Opportunity, Usage};
+use sched_calls::{Amount, BatchState, ChannelState, FlowSpec, Opportunity, Usage};
 use sched_history::{Auditor, Call, Scheduler};
-use std::alloc::AllocGlobal;
+use std::alloc::{AllocGlobal, Global};
 use std::test::Fail;
 
 // 64000 bits in a second, and 1600 bytes at once.
@@ -15,6 +15,16 @@ const LIMITED: FlowSpec = FlowSpec::BestEffort {
     peak: 0,
     reserved: 0,
     reserved_burst: 0,
+};
+
+// 640000 bits in a second at its peak, of which 512000 are reserved, in bursts of the quantum.
+const RESERVING: FlowSpec = FlowSpec::BestEffort {
+    priority: 3,
+    rate: 0,
+    burst: 0,
+    peak: 640_000,
+    reserved: 512_000,
+    reserved_burst: 64,
 };
 
 const VOICE: FlowSpec = FlowSpec::Unsolicited {
@@ -38,6 +48,21 @@ const STATION: Opportunity = Opportunity {
     slots: 36,
 };
 
+// What a scheduler tells after these calls, without its entries, and an auditor of the entries.
+fn told(alloc: Global, calls: &[Call]) -> Result<[ChannelState; 2], Fail> {
+    let mut scheduler = Scheduler::open(alloc, BASE.check()?)?;
+    let mut auditor = Auditor::open(alloc, BASE.check()?)?;
+    for (ticket, call) in calls.iter().enumerate() {
+        let stamp = Stamp {
+            seat: 0,
+            ticket: ticket as u64,
+        };
+        auditor.judge(scheduler.record(stamp, *call)?)?;
+    }
+    scheduler.forget();
+    Ok([scheduler.state()?, auditor.state()?])
+}
+
 // A flow is granted 544 of 1000 bytes from 844 on, in the 34 minislots of 16 bytes that the first frame with its request
 // leaves, and asks for 100 more. Another is placed, a window of all other minislots of a frame waits for one without
 // requests, and all that was heard before 845 was handed in.
@@ -59,17 +84,7 @@ fn a_state_has_what_goes_on(rt: HostRuntime) -> Result<(), Fail> {
             slots: u32::from(STATION.slots),
         },
     ];
-    let mut scheduler = Scheduler::open(rt.alloc(), BASE.check()?)?;
-    let mut auditor = Auditor::open(rt.alloc(), BASE.check()?)?;
-    for (ticket, call) in calls.iter().enumerate() {
-        let stamp = Stamp {
-            seat: 0,
-            ticket: ticket as u64,
-        };
-        auditor.judge(scheduler.record(stamp, *call)?)?;
-    }
-    scheduler.forget();
-    for state in [scheduler.state()?, auditor.state()?] {
+    for state in told(rt.alloc(), &calls)? {
         assert!(rt; state.entries == 8 && state.next == 880 && state.ack == 800);
         assert!(rt; state.progress.as_slice() == [845].as_slice());
         assert!(rt; state.ucd_count == 1 && state.change.is_none());
@@ -97,6 +112,28 @@ fn a_state_has_what_goes_on(rt: HostRuntime) -> Result<(), Fail> {
             return Err("a Reserve waits".into());
         };
         assert!(rt; waiting.maps == 0 && waiting.opportunity == STATION);
+    }
+    Ok(())
+}
+
+// A flow is granted 64 of 1000 bytes at 844, under its reservation, and at 850 the 448 that the frame leaves, not under
+// it. At 844 nothing was left of the reservation: at 850 that has what 6 minislots brought, 2048000 each, and the peak
+// rate has brought 2560000 in each of them.
+#[test]
+fn a_state_has_each_level_at_the_last_grant(rt: HostRuntime) -> Result<(), Fail> {
+    let calls = [
+        Call::Build { now: 760 },
+        Call::Admit(17, RESERVING),
+        ask(1000, 801),
+        Call::Build { now: 800 },
+    ];
+    for state in told(rt.alloc(), &calls)? {
+        let [data] = state.flows.as_slice() else {
+            return Err("one flow is live".into());
+        };
+        assert!(rt; data.granted == 512 && data.last == Some(850));
+        assert!(rt; data.sustained.is_none() && data.peak == Some(1_308_160_000));
+        assert!(rt; data.reserved == Some(12_288_000));
     }
     Ok(())
 }

@@ -63,6 +63,7 @@ returns-clause-sums c = λ kind keeps.
         rw (sym c.top_rank.ensures)
             (c.turn_in-self.ensures.of (top_rank f.spec) f.sid (last_start f.grants.items) keeps.turn.1),
       );
+      last = keeps.last;
       periods = record {
         sustained = no-later (has_ceiling_of f.spec spec) f.period.earlier _ one.period.earlier keeps.periods.sustained
             first.period;
