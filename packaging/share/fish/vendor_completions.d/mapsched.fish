@@ -43,6 +43,7 @@ complete -c mapsched -n '__mapsched_asks report' -l openmetrics -d 'Prints them 
 complete -c mapsched -n '__mapsched_asks report' -l svg -d 'Prints a picture of them in SVG'
 complete -c mapsched -n '__mapsched_asks report' -l from -x -d 'Tells of no entry before this time'
 complete -c mapsched -n '__mapsched_asks report' -l to -x -d 'Tells of no entry from this time on'
+complete -c mapsched -n '__mapsched_asks report' -l every -x -d 'Tells of one part of so many milliseconds after the other'
 complete -c mapsched -n '__mapsched_asks report' -l journal -d 'Reads a journal, of any length'
 complete -c mapsched -n '__mapsched_asks report' -s h -l help -d 'Print help'
 complete -c mapsched -n '__mapsched_asks storm' -s h -l help -d 'Print help'
