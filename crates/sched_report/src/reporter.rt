@@ -136,19 +136,13 @@ impl Reporter {
         let Ok(sids) = self.auditor.under(entry) else {
             return Err(JudgeFault::Memory);
         };
-        let (progress, reserves) = (self.auditor.progress(), self.auditor.open_reserves());
+        let (heard, reserves) = (self.auditor.progress(), self.auditor.open_reserves());
         self.auditor.judge(entry)?;
         self.totals
             .add(&self.config, &self.flows, met.as_slice(), entry);
         let left = self.auditor.open_reserves();
-        self.extremes.add(
-            &self.flows,
-            met.as_slice(),
-            &progress,
-            reserves,
-            left,
-            entry,
-        );
+        self.extremes
+            .add(&self.flows, met.as_slice(), &heard, reserves, left, entry);
         count_refusal(&mut self.refused, entry);
         note(&mut self.flows, entry);
         count_under(

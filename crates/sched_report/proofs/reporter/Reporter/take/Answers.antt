@@ -99,11 +99,11 @@ add-requires-2 c =
       take p h,
       drop p h,
       watched c.self.inside.config c.self.inside.auditor.config p h e i.config c.self.inside.extremes
-          c.deref-3.result.now c.as_slice-2.result.now c.progress-progress.result c.open_reserves-reserves.result
+          c.deref-3.result.now c.as_slice-2.result.now c.progress-heard.result c.open_reserves-reserves.result
           c.open_reserves-left.result i.lawful i.legal c.in_ok-judge.ensures.step short i.extremes
           (at _ c.deref-3.ensures)
           (c.as_slice-2.ensures.value ∙ c.in-Ok-met.ensures.met c.in_ok-judge.ensures.step)
-          c.progress-progress.ensures c.open_reserves-reserves.ensures.value
+          c.progress-heard.ensures c.open_reserves-reserves.ensures.value
           (c.open_reserves-left.ensures.value
           ∙ ap (λ (past : Past). length (reserves_of past.config past.history)) c.in_ok-judge.ensures.taken),
     )
@@ -168,13 +168,13 @@ invariant_of-self-2 c =
       meets = c.as_slice.ensures.value ∙ meets ∙ ap (λ (es : List Entry). met_after k es e.reply) (sym whole);
     } in
     let seen : IsWatched k front rest c.self.inside.extremes c.deref-3.result.now c.as_slice-2.result.now
-    c.progress-progress.result c.open_reserves-reserves.result c.open_reserves-left.result e =
+    c.progress-heard.result c.open_reserves-reserves.result c.open_reserves-left.result e =
     watched k c.self.inside.auditor.config p h e i.config c.self.inside.extremes
-    c.deref-3.result.now c.as_slice-2.result.now c.progress-progress.result c.open_reserves-reserves.result
+    c.deref-3.result.now c.as_slice-2.result.now c.progress-heard.result c.open_reserves-reserves.result
     c.open_reserves-left.result i.lawful i.legal c.in_ok-judge.ensures.step short i.extremes
     (at _ c.deref-3.ensures)
     (c.as_slice-2.ensures.value ∙ c.in-Ok-met.ensures.met c.in_ok-judge.ensures.step)
-    c.progress-progress.ensures c.open_reserves-reserves.ensures.value
+    c.progress-heard.ensures c.open_reserves-reserves.ensures.value
     (c.open_reserves-left.ensures.value
     ∙ ap (λ (past : Past). length (reserves_of past.config past.history)) c.in_ok-judge.ensures.taken) in
     let follows : MayFollow k p h c.reserve_for.new.lives.items c.self.inside.next c.as_slice-4.result.now e = record {
