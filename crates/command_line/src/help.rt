@@ -171,9 +171,9 @@ which its last byte was granted. Delays are in milliseconds, rates in bits per
 second; a number without room is printed in thousands (k), millions (M) and so on,
 and - means none. Of more than 30 lives it prints those that asked most; with --all
 it prints all, in the order of their admissions. With --json it prints the same
-numbers in one line of JSON, with delays in minislots; with --openmetrics in that text
-format, with times in seconds; with --svg a picture of them, the use of minislots over
-time and the delays by rank.
+numbers in one line of JSON, with delays in minislots; with --openmetrics these and some
+more in that text format, with times in seconds; with --svg a picture of them, the use of
+minislots over time and the delays by rank.
 docs/REPORT.md has each number in a line.
 
 With --from and --to it tells of a part of the history alone: of the entries at whose
@@ -190,7 +190,8 @@ without entries is left out. What is illegal or bad is told behind the parts bef
 With --journal it reads a journal as `run --journal` prints it, of any length, line
 by line, and reports on it as on that history: standard error names bytes after
 the last newline, which are ignored (`torn` and how many), and a line that
-is no entry (`bad journal at` and the line, counted from 0; nothing is printed).
+is no entry (`bad journal at` and the line, counted from 0; nothing is printed, but with
+--every the parts before it).
 
 Exit statuses: 0, or 1 illegal, 2 for the command line, 3 for the input, 4 for the
 machine.

@@ -19,7 +19,7 @@ use Rattle.report_command.specs.declared.journal.Shown.{Shown}
 use Rattle.report_command.specs.declared.journal.Shown.TheVariants as shown
 
 -- the lines of a journal are this legal history, and what is told is over behind none of its entries; or its first ones
--- are, behind the last of which alone it is, and those behind were not read
+-- are, behind the last of which alone it is
 abbrev pub FindsTold : Range → Option (List ℕ) → Option (List ℕ) → Configuration → List Entry → ℕ → Type 0
 FindsTold r unread left c es torn = (FindsLegal unread left c es torn × GoesOn c r es)
     ⊎ ((torn ≡ 0) × (is_over r.to (ticks_after c es) ≡ true) × (entries_until c r.to es ≡ length es)
