@@ -27,6 +27,7 @@ pub mod Profile
 pub mod Queues
 pub mod Removal
 pub mod Reservation
+pub mod Ceilings
 pub mod Rooms
 pub mod RowsBucket
 pub mod RowsCeiling
@@ -34,6 +35,7 @@ pub mod RowsChanges
 pub mod RowsChoice
 pub mod RowsPeak
 pub mod RowsReserved
+pub mod RowsStanding
 pub mod NextServed
 pub mod Numbered
 pub mod Numbers

@@ -24,8 +24,8 @@ mod refusing;
 mod reserves;
 mod resuming;
 mod settling;
+mod standing;
 mod state;
-mod under;
 
 use crate::fault::PlanFault;
 use crate::ledger::Ledger;

@@ -23,8 +23,8 @@ pub mod Renewed
 pub mod Naming
 pub mod GrantedLaws
 pub mod LiveNow
-pub mod UnderLaws
-pub mod UnderSteps
+pub mod WaitsLaws
+pub mod WaitsSteps
 pub mod RanksTold
 pub mod RowsPercentiles
 pub mod RowsSaid

@@ -14,11 +14,12 @@ use Rattle.sched_report.specs.Totals.{AreTotals}
 use Rattle.sched_report.specs.Live.{AreLive}
 use Rattle.sched_report.specs.Lives.{lives_in}
 use Rattle.sched_report.specs.ToldLives.{AreLives}
-use Rattle.sched_report.specs.Under.{AreUnder}
+use Rattle.sched_report.specs.declared.waits.Waited.{Waited}
+use Rattle.sched_report.specs.Waits.{AreWaited}
 
 -- The numbers are those of the history that the auditor took, behind so many of its entries
 pub record IsReport (c : Config) (past : Past) (passed : ℕ) (flows : List Bool) (t : Totals) (counts : List ℕ)
-    (slot : ℕ) (ts : List LifeTally) (places under by_sid : List ℕ) : Type 0 where
+    (slot : ℕ) (ts : List LifeTally) (places : List ℕ) (waited : Waited) (by_sid : List ℕ) : Type 0 where
   pub config : c ≡ past.config
   pub legal : IsLegal c past.history
   pub told : TellsUnsolicited flows past.history
@@ -29,5 +30,5 @@ pub record IsReport (c : Config) (past : Past) (passed : ℕ) (flows : List Bool
   pub next : slot ≡ next_after c past.history
   pub lives : AreLives c ts (lives_in passed past.history)
   pub live : AreLive places ts
-  pub waited : AreUnder c passed past.history under
+  pub waited : AreWaited c passed past.history waited
   pub sids : CountsRefusedSids by_sid (drop passed past.history)

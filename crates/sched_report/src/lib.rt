@@ -15,7 +15,7 @@ mod service;
 mod slots;
 mod spread;
 mod totals;
-mod under;
+mod waits;
 
 pub use calls::Calls;
 pub use life::{LifeNumbers, POLLED};

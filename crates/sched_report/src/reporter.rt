@@ -18,7 +18,7 @@ use crate::lives::{follow, renew_each, reserve_for};
 use crate::ranks::{RankNumbers, numbers_of};
 use crate::refused_sids::count_refused_sid;
 use crate::totals::Totals;
-use crate::under::{count_under, renew_counts, reserve_count};
+use crate::waits::{Waited, renew_counts, who_waits};
 use frame_picture::{Flows, no_flows, note};
 use minislots::Checked;
 use sched_history::{Auditor, Entry, JudgeFault, MAX_WHOLE_HISTORY};
@@ -47,8 +47,8 @@ pub struct Reporter {
     lives: Vec<LifeTally>,
     // Where the life that goes on under each SID stands, which alone an entry of the SID is shown to.
     places: Vec<usize>,
-    // How often each life waited under its minimum reserved rate, at the places of the lives.
-    under: Vec<u64>,
+    // How often each life waited for bytes, at the places of the lives.
+    waited: Waited,
     // How many refused calls name each SID.
     refused_sids: Vec<u64>,
     // How many entries came before what is told.
@@ -70,7 +70,7 @@ impl Model for Reporter {
 
     ghost invariant = { λ r.
         IsReport r.config r.auditor r.passed r.flows.value r.totals r.refused r.next r.lives.items
-        r.places.items r.under.items r.refused_sids.items };
+        r.places.items r.waited r.refused_sids.items };
 }
 
 impl Reporter {
@@ -89,7 +89,7 @@ impl Reporter {
             refused: [0; REFUSALS],
             lives: Vec::new(alloc),
             places: vec![in alloc; 0; SIDS]?,
-            under: Vec::new(alloc),
+            waited: Waited::none(alloc),
             refused_sids: vec![in alloc; 0; SIDS]?,
             passed: 0,
         })
@@ -122,7 +122,7 @@ impl Reporter {
             Ok(()) => {}
             Err(_) => return Err(JudgeFault::Memory),
         }
-        match reserve_count(&mut self.under, entry) {
+        match self.waited.reserve(entry) {
             Ok(()) => {}
             Err(_) => return Err(JudgeFault::Memory),
         }
@@ -130,7 +130,7 @@ impl Reporter {
         let Ok(met) = self.auditor.met(entry) else {
             return Err(JudgeFault::Memory);
         };
-        let Ok(sids) = self.auditor.under(entry) else {
+        let Ok(waiters) = who_waits(&self.auditor, entry) else {
             return Err(JudgeFault::Memory);
         };
         self.auditor.judge(entry)?;
@@ -138,13 +138,8 @@ impl Reporter {
             .add(&self.config, &self.flows, met.as_slice(), entry);
         count_refusal(&mut self.refused, entry);
         note(&mut self.flows, entry);
-        count_under(
-            &mut self.under,
-            &self.lives,
-            &self.places,
-            sids.as_slice(),
-            entry,
-        );
+        self.waited
+            .count(&self.lives, &self.places, &waiters, entry);
         self.next = follow(
             &mut self.lives,
             &mut self.places,
@@ -167,7 +162,7 @@ impl Reporter {
         self.totals = Totals::none(&self.config);
         self.refused = [0; REFUSALS];
         renew_each(&mut self.lives, self.next);
-        renew_counts(&mut self.under);
+        self.waited.renew();
         renew_counts(&mut self.refused_sids);
     }
 
@@ -224,7 +219,7 @@ impl Reporter {
             (slice_index_or (lives_told self.now) place life) }
         ensures few { result.granted < 2 ^ 90 }
     {
-        self.lives[place].numbers(self.next, self.under[place])
+        self.lives[place].numbers(self.next, self.waited.under[place], self.waited.held[place])
     }
 
     /// The numbers of a rank: of polled flows in [`POLLED`](crate::POLLED), of best effort flows in their priority.

@@ -3,7 +3,7 @@
 ghost use Rattle.std.specs.Prelude.{◌≡◌, ◌<◌, ◌≤◌, ◌↔◌, ◌++◌, ◌∷◌, [], true, false, length};
 ghost use Rattle.std.specs.Prelude.{IfOk, IfErr, OnOk, OnErr, IsErrOf};
 ghost use Rattle.sched_calls.specs.declared.reply.TheConstants.{MAX_WHOLE_HISTORY};
-ghost use Rattle.sched_history.specs.Facts.{under_by};
+ghost use Rattle.sched_history.specs.Facts.{waits_by};
 ghost use Rattle.sched_history.specs.History.{IsStep, IsLegal};
 ghost use Rattle.sched_calls.specs.Reply.{IsEncodable};
 ghost use Rattle.sched_history.specs.Machine.{MayLackMemory};
@@ -14,6 +14,7 @@ use super::sameness::is_refused;
 use crate::fault::JudgeFault;
 use crate::ledger::Ledger;
 use crate::scheduler::{Present, Scheduler, State};
+use flow_book::Standing;
 use map_build::Met;
 use minislots::Checked;
 use sched_calls::{Call, Entry, MAX_WHOLE_HISTORY, Reply};
@@ -105,12 +106,12 @@ impl Auditor {
         present.met(self.alloc, entry)
     }
 
-    /// The SIDs of the flows that wait for bytes under their minimum reserved rates where the MAP of an entry starts, in
+    /// The SIDs of the flows that wait for bytes where the MAP of an entry starts and stand so to their rates there, in
     /// order, where its reply may follow: none where it has no MAP, or one that settles. It is asked before
     /// [`Auditor::judge`] takes the entry.
-    pub fn under(&self, entry: &Entry) -> Result<Vec<u16>, AllocError>
-        ensures under { IfOk result (λ sids. IsStep self.now.config self.now.history entry.now.call entry.now.reply
-            → sids.items ≡ under_by self.now.config self.now.history entry.now.reply) }
+    pub fn who_waits(&self, entry: &Entry, standing: Standing) -> Result<Vec<u16>, AllocError>
+        ensures waits { IfOk result (λ sids. IsStep self.now.config self.now.history entry.now.call entry.now.reply
+            → sids.items ≡ waits_by standing self.now.config self.now.history entry.now.reply) }
         ensures memory { OnErr result
             (MayLackMemory self.now.config self.now.history entry.now.call) }
     {
@@ -118,7 +119,7 @@ impl Auditor {
             state: &self.state,
             ledger: &self.ledger,
         };
-        present.under(self.alloc, entry)
+        present.who_waits(self.alloc, entry, standing)
     }
 
     /// How many entries were taken.

@@ -6,7 +6,7 @@ use Rattle.sched_report.specs.Lives.{lives_in}
 use Rattle.sched_report.specs.Window.{Window, lives_told}
 use Rattle.sched_report.specs.Told.{IsLifeOf}
 use Rattle.sched_report.specs.ToldLives.{AreLifeNumbers}
-use Rattle.sched_report.specs.UnderIn.{under_in}
+use Rattle.sched_report.specs.WaitsIn.{under_in, held_in}
 use Rattle.sched_report.proofs.LivesEach.{no_life}
 use Rattle.sched_report.proofs.LiveNow.{live_now}
 use Rattle.sched_report.proofs.reporter.Reporter.life.Goals as goal
@@ -42,7 +42,9 @@ returns-clause-told c = λ life.
     c.numbers.ensures.told k (get_or ls place life) is
     (live_now k c.self.inside.passed h i.legal i.passed_few place life below c.self.inside.next i.next)
     (sym (subst (λ (n : ℕ). under_in k (get_or ls place life) ≡ n) (sym c.index-2.ensures)
-    (sym (i.waited.each place c.index-2.result.now life (omega (arith, below, i.waited.long)))))) in
+    (sym (i.waited.under.each place c.index-2.result.now life (omega (arith, below, i.waited.under.long))))))
+    (sym (subst (λ (n : ℕ). held_in k (get_or ls place life) ≡ n) (sym c.index-3.ensures)
+    (sym (i.waited.held.each place c.index-3.result.now life (omega (arith, below, i.waited.held.long)))))) in
     subst (λ (w : Window). AreLifeNumbers w.config c.numbers.result (get_or (lives_told w) place life))
     c.self.view_is
     (subst (λ (k : Config). AreLifeNumbers k c.numbers.result (get_or ls place life)) i.config own)

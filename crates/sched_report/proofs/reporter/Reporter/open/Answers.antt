@@ -8,10 +8,11 @@ use Rattle.sched_report.proofs.reporter.Reporter.open.Goals as goal
 pub invariant_of-result : goal.invariant_of-result
 invariant_of-result c =
     let none : length c.new-2.result.items ≡ 0 = ap length c.new-2.ensures.items in
-    let uncounted : length c.new-3.result.items ≡ 0 = ap length c.new-3.ensures.items in
+    let under : length c.none-2.result.under.items ≡ 0 = ap length c.none-2.ensures.under in
+    let held : length c.none-2.result.held.items ≡ 0 = ap length c.none-2.ensures.held in
     subst (λ (p : Past).
     IsReport c.args.config p 0 c.in_ok-new.field-0.value c.none.result _ c.start.result c.new-2.result.items
-    c.in_ok-vec.field-0.items c.new-3.result.items c.in_ok-vec-2.field-0.items)
+    c.in_ok-vec.field-0.items c.none-2.result c.in_ok-vec-2.field-0.items)
     (sym c.in_ok-open.ensures)
     (record {
       config = refl;
@@ -28,9 +29,16 @@ invariant_of-result c =
         each = λ k t below alive. absurd (omega (arith, below, none));
       };
       waited = record {
-        long = uncounted;
-        each = λ k n life below. absurd (omega (arith, below, uncounted));
-        few = λ k n below. absurd (omega (arith, below, uncounted));
+        under = record {
+          long = under;
+          each = λ k n life below. absurd (omega (arith, below, under));
+          few = λ k n below. absurd (omega (arith, below, under));
+        };
+        held = record {
+          long = held;
+          each = λ k n life below. absurd (omega (arith, below, held));
+          few = λ k n below. absurd (omega (arith, below, held));
+        };
       };
       sids = record {
         places = omega (arith, c.in_ok-vec-2.field-0.ok.0, c.in_ok-vec-2.ensures.len);

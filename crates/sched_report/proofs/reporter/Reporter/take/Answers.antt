@@ -7,7 +7,6 @@ use Rattle.std.proofs.lemmas.Bool.{cases_lt}
 use Rattle.minislots.specs.declared.config.Config.{Config}
 use Rattle.map_build.proofs.EachAfterLaws.{EachAfter-push}
 use Rattle.sched_calls.specs.declared.reply.TheConstants.{MAX_WHOLE_HISTORY}
-use Rattle.sched_history.specs.Facts.{under_by}
 use Rattle.sched_calls.specs.declared.reply.Entry.{Entry}
 use Rattle.sched_history.specs.History.{IsStep, IsLegal}
 use Rattle.sched_history.specs.Machine.{Past}
@@ -22,7 +21,8 @@ use Rattle.sched_report.specs.Totals.{AreTotals}
 use Rattle.sched_report.specs.Lives.{lives_in}
 use Rattle.sched_report.specs.declared.life.LifeTally.{LifeTally}
 use Rattle.sched_report.specs.ToldLives.{AreLives, MayFollow}
-use Rattle.sched_report.specs.Under.{AreUnder, MayCountUnder}
+use Rattle.sched_report.specs.Waits.{AreWaited, AreWaiters, MayCountBoth}
+use Rattle.sched_report.proofs.WaitsSteps.{AreWaited-same, may-count}
 use Rattle.sched_report.proofs.reporter.Reporter.take.Goals as goal
 
 pub follow-self-inside-requires-clause-may : goal.follow-self-inside-requires-clause-may
@@ -44,7 +44,7 @@ follow-self-inside-requires-clause-may c =
         ];
         next = i.next;
         lives = c.reserve_for.ensures.same k (lives_in p h) i.lives;
-        meets = c.as_slice-3.ensures.value ∙ c.in-Ok-met.ensures.met c.in_ok-judge.ensures.step
+        meets = c.as_slice-2.ensures.value ∙ c.in-Ok-met.ensures.met c.in_ok-judge.ensures.step
             ∙ ap (λ (k : Config). met_after k h e.reply) (sym i.config);
         passed_few = i.passed_few;
       },
@@ -80,8 +80,8 @@ add-requires c =
       },
     )
 
-pub count_under-requires-clause-may : goal.count_under-requires-clause-may
-count_under-requires-clause-may c =
+pub count-requires-clause-may : goal.count-requires-clause-may
+count-requires-clause-may c =
     let i = c.self.invariant in
     let k = c.self.inside.config in
     let p = c.self.inside.passed in
@@ -90,21 +90,18 @@ count_under-requires-clause-may c =
       k,
       p,
       h,
-      record {
-        lawful = i.lawful;
-        legal = i.legal;
-        step = subst (λ (k : Config). IsStep k h e.call e.reply) (sym i.config) c.in_ok-judge.ensures.step;
-        short = elim (cases_lt (length h) MAX_WHOLE_HISTORY) [
-          | inl below ↦ below
-          | inr full ↦ absurd (cc (c.in_ok-judge.ensures.full.1 full))
-        ];
-        lives = subst (λ (ts : List LifeTally). AreLives k ts (lives_in p h)) (sym c.deref-3.ensures.value)
-            (c.reserve_for.ensures.same k (lives_in p h) i.lives);
-        counts = subst (AreUnder k p h) (sym c.reserve_count.ensures.same) i.waited;
-        waits = c.as_slice-2.ensures.value ∙ c.in-Ok-under.ensures.under c.in_ok-judge.ensures.step
-            ∙ ap (λ (k : Config). under_by k h e.reply) (sym i.config);
-        passed_few = i.passed_few;
-      },
+      may-count k p h c.deref-3.result.now c.reserve.new.self c.in-Ok-who_waits.waiters e i.lawful i.legal
+          (subst (λ (k : Config). IsStep k h e.call e.reply) (sym i.config) c.in_ok-judge.ensures.step)
+          (elim (cases_lt (length h) MAX_WHOLE_HISTORY) [
+            | inl below ↦ below
+            | inr full ↦ absurd (cc (c.in_ok-judge.ensures.full.1 full))
+          ])
+          (subst (λ (ts : List LifeTally). AreLives k ts (lives_in p h)) (sym c.deref-3.ensures.value)
+          (c.reserve_for.ensures.same k (lives_in p h) i.lives))
+          (AreWaited-same k p h c.self.inside.waited c.reserve.new.self c.reserve.ensures.same_under
+          c.reserve.ensures.same_held i.waited) i.passed_few
+          (subst (λ (k : Config). AreWaiters k h e.reply c.in-Ok-who_waits.waiters) (sym i.config)
+          (c.in-Ok-who_waits.ensures.waits c.in_ok-judge.ensures.step)),
     )
 
 pub invariant_of-self-2 : goal.invariant_of-self-2
@@ -139,32 +136,27 @@ invariant_of-self-2 c =
       told = subst (TellsUnsolicited c.deref-2.result.now) (sym whole) (at _ c.deref-2.ensures);
       meets = c.as_slice.ensures.value ∙ meets ∙ ap (λ (es : List Entry). met_after k es e.reply) (sym whole);
     } in
-    let follows : MayFollow k p h c.reserve_for.new.lives.items c.self.inside.next c.as_slice-3.result.now e = record {
+    let follows : MayFollow k p h c.reserve_for.new.lives.items c.self.inside.next c.as_slice-2.result.now e = record {
       lawful = i.lawful;
       legal = i.legal;
       step = step;
       short = short;
       next = i.next;
       lives = c.reserve_for.ensures.same k (lives_in p h) i.lives;
-      meets = c.as_slice-3.ensures.value ∙ meets;
+      meets = c.as_slice-2.ensures.value ∙ meets;
       passed_few = i.passed_few;
     } in
-    let waits : MayCountUnder k p h c.deref-3.result.now c.reserve_count.new.under.items c.as_slice-2.result.now e =
-    record {
-      lawful = i.lawful;
-      legal = i.legal;
-      step = step;
-      short = short;
-      lives = subst (λ (ts : List LifeTally). AreLives k ts (lives_in p h)) (sym c.deref-3.ensures.value)
-          (c.reserve_for.ensures.same k (lives_in p h) i.lives);
-      counts = subst (AreUnder k p h) (sym c.reserve_count.ensures.same) i.waited;
-      waits = c.as_slice-2.ensures.value ∙ c.in-Ok-under.ensures.under c.in_ok-judge.ensures.step
-          ∙ ap (λ (k : Config). under_by k h e.reply) (sym i.config);
-      passed_few = i.passed_few;
-    } in
+    let waits : MayCountBoth k p h c.deref-3.result.now c.reserve.new.self c.in-Ok-who_waits.waiters e =
+    may-count k p h c.deref-3.result.now c.reserve.new.self c.in-Ok-who_waits.waiters e i.lawful i.legal step short
+    (subst (λ (ts : List LifeTally). AreLives k ts (lives_in p h)) (sym c.deref-3.ensures.value)
+    (c.reserve_for.ensures.same k (lives_in p h) i.lives))
+    (AreWaited-same k p h c.self.inside.waited c.reserve.new.self c.reserve.ensures.same_under
+    c.reserve.ensures.same_held i.waited) i.passed_few
+    (subst (λ (k : Config). AreWaiters k h e.reply c.in-Ok-who_waits.waiters) (sym i.config)
+    (c.in-Ok-who_waits.ensures.waits c.in_ok-judge.ensures.step)) in
     subst (λ (past : Past). IsReport k past p c.note.new.flows c.add.new.self c.count_refusal.new.counts
     c.follow-self-inside.result c.follow-self-inside.new.lives.items
-    (with_items c.self.inside.places c.follow-self-inside.new.places).items c.count_under.new.under.items
+    (with_items c.self.inside.places c.follow-self-inside.new.places).items c.count.new.self
     (with_items c.self.inside.refused_sids c.count_refused_sid.new.counts).items)
     (sym c.in_ok-judge.ensures.taken)
     (record {
@@ -183,7 +175,7 @@ invariant_of-self-2 c =
           (sym (with_items_is c.self.inside.places c.follow-self-inside.new.places
           (c.follow-self-inside.auto.places ∙ c.deref_mut-2.ensures.len)))
           c.follow-self-inside.ensures.live;
-      waited = c.count_under.ensures k p h waits;
+      waited = c.count.ensures k p h waits;
       sids = subst (λ (counts : List ℕ). CountsRefusedSids counts (drop p (h ++ e ∷ [])))
           (sym (with_items_is c.self.inside.refused_sids c.count_refused_sid.new.counts
           (c.count_refused_sid.auto.counts ∙ c.deref_mut-3.ensures.len)))
@@ -211,8 +203,8 @@ invariant_of-self c =
       sids = i.sids;
     }
 
-pub invariant_of-self-in-Err-reserve_count : goal.invariant_of-self-in-Err-reserve_count
-invariant_of-self-in-Err-reserve_count c =
+pub invariant_of-self-in-Err-reserve : goal.invariant_of-self-in-Err-reserve
+invariant_of-self-in-Err-reserve c =
     let i = c.self.invariant in
     record {
       config = i.config;
@@ -226,12 +218,13 @@ invariant_of-self-in-Err-reserve_count c =
       lives = c.reserve_for.ensures.same c.self.inside.config (lives_in c.self.inside.passed c.self.inside.auditor.history) i.lives;
       live = subst (λ (places : List ℕ). AreLive places c.reserve_for.new.lives.items) c.deref.ensures.value
           c.reserve_for.ensures.live;
-      waited = rw (c.reserve_count.ensures.same) i.waited;
+      waited = AreWaited-same c.self.inside.config c.self.inside.passed c.self.inside.auditor.history
+          c.self.inside.waited c.reserve.new.self c.reserve.ensures.same_under c.reserve.ensures.same_held i.waited;
       sids = i.sids;
     }
 
-pub invariant_of-self-in_default-under : goal.invariant_of-self-in_default-under
-invariant_of-self-in_default-under c =
+pub invariant_of-self-in_default-who_waits : goal.invariant_of-self-in_default-who_waits
+invariant_of-self-in_default-who_waits c =
     let i = c.self.invariant in
     record {
       config = i.config;
@@ -245,7 +238,8 @@ invariant_of-self-in_default-under c =
       lives = c.reserve_for.ensures.same c.self.inside.config (lives_in c.self.inside.passed c.self.inside.auditor.history) i.lives;
       live = subst (λ (places : List ℕ). AreLive places c.reserve_for.new.lives.items) c.deref.ensures.value
           c.reserve_for.ensures.live;
-      waited = rw (c.reserve_count.ensures.same) i.waited;
+      waited = AreWaited-same c.self.inside.config c.self.inside.passed c.self.inside.auditor.history
+          c.self.inside.waited c.reserve.new.self c.reserve.ensures.same_under c.reserve.ensures.same_held i.waited;
       sids = i.sids;
     }
 
@@ -264,7 +258,8 @@ invariant_of-self-in_default c =
       lives = c.reserve_for.ensures.same c.self.inside.config (lives_in c.self.inside.passed c.self.inside.auditor.history) i.lives;
       live = subst (λ (places : List ℕ). AreLive places c.reserve_for.new.lives.items) c.deref.ensures.value
           c.reserve_for.ensures.live;
-      waited = rw (c.reserve_count.ensures.same) i.waited;
+      waited = AreWaited-same c.self.inside.config c.self.inside.passed c.self.inside.auditor.history
+          c.self.inside.waited c.reserve.new.self c.reserve.ensures.same_under c.reserve.ensures.same_held i.waited;
       sids = i.sids;
     }
 
@@ -273,7 +268,7 @@ invariant_of-self-in_err-judge c =
     let i = c.self.invariant in
     let s = c.self.inside in
     subst (λ (p : Past). IsReport s.config p s.passed s.flows.value s.totals s.refused s.next c.reserve_for.new.lives.items
-    s.places.items c.reserve_count.new.under.items s.refused_sids.items)
+    s.places.items c.reserve.new.self s.refused_sids.items)
     (sym c.in_err-judge.ensures.err)
     (record {
       config = i.config;
@@ -287,6 +282,7 @@ invariant_of-self-in_err-judge c =
       lives = c.reserve_for.ensures.same s.config (lives_in s.passed s.auditor.history) i.lives;
       live = subst (λ (places : List ℕ). AreLive places c.reserve_for.new.lives.items) c.deref.ensures.value
           c.reserve_for.ensures.live;
-      waited = rw (c.reserve_count.ensures.same) i.waited;
+      waited = AreWaited-same c.self.inside.config c.self.inside.passed c.self.inside.auditor.history
+          c.self.inside.waited c.reserve.new.self c.reserve.ensures.same_under c.reserve.ensures.same_held i.waited;
       sids = i.sids;
     })
