@@ -13,8 +13,8 @@ use Rattle.flow_book.specs.Choice.{last_start, last_slot}
 use Rattle.flow_book.specs.Flows.{LiveFlow, bytes_of, granted, in_period, in_peak_period, in_reserved_period}
 
 -- the least that is left at a minislot of a burst, in 1/1280000 bytes, by the windows of these grants that end with the
--- last of them: of the burst and of what the rate brings from the window's first start on, its bytes are taken. The empty
--- window leaves the burst
+-- last of them: of the burst and of what the rate brings from the window's first start on, its bytes are taken. The
+-- empty window leaves the burst
 abbrev pub left_at : Config → ℕ → ℕ → ℕ → List Grant → ℕ
 left_at c rate burst slot [] = 1280000 * burst
 left_at c rate burst slot (g ∷ grants) = min

@@ -45,8 +45,8 @@ impl Flow {
 }
 
 impl Book {
-    /// A live flow as the state of a scheduler tells it, but for its place, by its own place here, from 0, in the order of
-    /// SIDs. Takes no memory.
+    /// A live flow as the state of a scheduler tells it, but for its place, by its own place here, from 0, in the
+    /// order of SIDs. Takes no memory.
     pub fn state_at(&self, index: usize) -> FlowState
         requires { index < length self.now.flows }
         ensures { option_map (flow_state self.now.config) (slice_get self.now.flows index) ≡ Some result }

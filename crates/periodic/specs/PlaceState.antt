@@ -4,8 +4,8 @@ use Rattle.minislots.specs.declared.config.Config.{Config}
 use Rattle.sched_calls.specs.declared.state.PlaceState.{PlaceState}
 use Rattle.periodic.specs.Placement.{Placed, phase_of, offset_of}
 
--- the place of a placed flow: its phase, nominal offset and starts, and whether it rests. Where its reference is, of all
--- its nominal times, is no part of it
+-- the place of a placed flow: its phase, nominal offset and starts, and whether it rests. Where its reference is, of
+-- all its nominal times, is no part of it
 abbrev pub place_state : Config → Placed → PlaceState
 place_state c f = record {
   phase = phase_of c f.spec f.placement;

@@ -37,8 +37,8 @@ abbrev pub reserve_state : Reserve → ReserveState
 reserve_state r = record { opportunity = r.opportunity; maps = r.maps }
 
 -- the state after a history: the number of its entries; where the next MAP starts; how far each receiver has handed in
--- what it heard; the last MAP's acknowledge time and UCD count, the header of the next one, and where the last MAP starts
--- that changed the UCD count; the live flows, in order of SID; and the Reserves that wait, in their order
+-- what it heard; the last MAP's acknowledge time and UCD count, the header of the next one, and where the last MAP
+-- starts that changed the UCD count; the live flows, in order of SID; and the Reserves that wait, in their order
 abbrev pub state_of : Config → List Entry → ChannelState
 state_of c h = record {
   entries = length h;

@@ -9,8 +9,8 @@ use Rattle.frame_picture.specs.OpenIdle.{is_open_idle}
 use Rattle.sched_report.specs.Uses.{use_of}
 use Rattle.sched_report.specs.Gaps.{is_free_in, longest_run}
 
--- the most free minislots in a row of a frame of these elements, which meets these opportunities, and in which no flow is
--- unsolicited
+-- the most free minislots in a row of a frame of these elements, which meets these opportunities, and in which no
+-- flow is unsolicited
 abbrev gap_of : List Met → List Element → ℕ
 gap_of met es = longest_run (is_free_in met (λ sid. false)) (allocations_of es)
 

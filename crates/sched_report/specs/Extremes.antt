@@ -75,8 +75,8 @@ TellsProgress c h progress = (receiver : ℕ) → receiver < c.receivers
     → slice_index progress receiver ≡ progress_of c receiver h
 
 -- The entry may follow the history, some entries and others behind them, of which these are the extremes. It is told
--- which flows are unsolicited then, what its MAP meets, how far the receivers are, and how many Reserves are open before
--- and after it
+-- which flows are unsolicited then, what its MAP meets, how far the receivers are, and how many Reserves are open
+-- before and after it
 pub record IsWatched (c : Config) (before es : List Entry) (x : Extremes) (flows : List Bool) (met : List Met)
     (progress : List ℕ) (reserves left : ℕ) (e : Entry) : Type 0 where
   pub lawful : IsLawful c

@@ -71,7 +71,7 @@ pub struct LifeNumbers {
     /// The requests that waited when the life ended.
     pub dropped: u64,
     /// For how many minislots the first of those that wait has waited: from where it was heard to where the next frame
-    /// starts, and 0 where it was heard later. None where none waits.
+    /// starts. None where none waits.
     pub oldest: Option<u64>,
     /// The delay that 50 in a hundred of the requests that were served do not exceed: up to [`EXACT`](crate::EXACT)
     /// minislots exactly, and above that at most one part in a hundred too much.

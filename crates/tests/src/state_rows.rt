@@ -63,7 +63,8 @@ fn told(alloc: Global, calls: &[Call]) -> Result<[ChannelState; 2], Fail> {
     Ok([scheduler.state()?, auditor.state()?])
 }
 
-// A flow is granted 544 of 1000 bytes from 844 on, in the 34 minislots of 16 bytes that the first frame with its request
+// A flow is granted 544 of 1000 bytes from 844 on, in the 34 minislots of 16 bytes that the first frame with its
+// request
 // leaves, and asks for 100 more. Another is placed, a window of all other minislots of a frame waits for one without
 // requests, and all that was heard before 845 was handed in.
 #[test]

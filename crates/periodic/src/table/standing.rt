@@ -69,8 +69,8 @@ impl Table {
         })
     }
 
-    /// The place of the flow with this SID, where it is placed, as the state of a scheduler tells it. Memory is taken for
-    /// its starts alone.
+    /// The place of the flow with this SID, where it is placed, as the state of a scheduler tells it. Memory is taken
+    /// for its starts alone.
     pub fn place_state(&self, sid: u16) -> Result<Option<PlaceState>, AllocError>
         ensures value { IfOk result (λ place. place ≡ place_state_of self.now.config sid self.now.placed) }
         ensures memory { OnErr result (IsPlaced sid self.now.placed) }

@@ -132,8 +132,8 @@ impl Auditor {
         self.state.reserves.len() as u64
     }
 
-    /// The minislot before which each receiver of the configuration has handed in every request that it heard, after the
-    /// entries that were taken. Those behind them say nothing.
+    /// The minislot before which each receiver of the configuration has handed in every request that it heard, after
+    /// the entries that were taken. Those behind them say nothing.
     pub fn progress(&self) -> [u64; 16]
         ensures { (receiver : ℕ) → receiver < self.now.config.receivers → slice_index result receiver
             ≡ progress_of self.now.config receiver self.now.history }
