@@ -1,25 +1,25 @@
--- The SID of a flow more stands behind, where it waits under its reservation.
+-- The SID of a flow more stands behind, where it waits and stands so.
 use Rattle.std.proofs.Common.{◌≡◌, sym, ap, ◌∙◌, refl, ℕ, Bool, true, false, List, [], ◌∷◌, ◌++◌, map, filter, take, cond, arith}
 use Rattle.std.proofs.lemmas.List.{append-nil, map-append, take_all}
 use Rattle.std.proofs.lemmas.List.Elements.{filter-append}
 use Rattle.flow_book.specs.Flows.{LiveFlow}
 use Rattle.flow_book.specs.Choice.{HasStartedBy}
 use Rattle.flow_book.specs.Entry.{live, IsSoundFlow}
-use Rattle.flow_book.specs.Reserved.{waits_under}
+use Rattle.flow_book.specs.Standing.{waits_so}
 use Rattle.flow_book.proofs.Steps.{taken-item, all-item}
-use Rattle.flow_book.proofs.under.under_at.Goals as goal
-use Rattle.flow_book.proofs.under.under_at.Goals.{then-waits_under+in_ok-push, else-waits_under}
+use Rattle.flow_book.proofs.standing.who_waits.Goals as goal
+use Rattle.flow_book.proofs.standing.who_waits.Goals.{then-waits_so+in_ok-push, else-waits_so}
 
 pub loop-place-init : goal.loop-place-init
 loop-place-init c = c.new-sids.ensures.items
 
-pub waits_under-requires-clause-within : goal.waits_under-requires-clause-within
-waits_under-requires-clause-within c =
+pub waits_so-requires-clause-within : goal.waits_so-requires-clause-within
+waits_so-requires-clause-within c =
     (all-item live c.args.flows.now c.loop-place.place c.at-flow.result.now (omega (arith, c.loop-place-test.true))
     c.at-flow.ensures (IsSoundFlow c.args.config.now) c.requires.book.sound.each).within
 
-pub waits_under-requires-clause-started : goal.waits_under-requires-clause-started
-waits_under-requires-clause-started c =
+pub waits_so-requires-clause-started : goal.waits_so-requires-clause-started
+waits_so-requires-clause-started c =
     all-item live c.args.flows.now c.loop-place.place c.at-flow.result.now (omega (arith, c.loop-place-test.true))
     c.at-flow.ensures (HasStartedBy c.args.start) c.requires.started
 
@@ -38,13 +38,13 @@ loop-place-preserved c =
     let items = c.args.flows.now in
     let i = c.loop-place.place in
     let f = c.at-flow.result.now in
-    let p = waits_under c.args.config.now c.args.start in
+    let p = waits_so c.args.standing c.args.config.now c.args.start in
     let taken = taken-item live items i f (omega (arith, c.loop-place-test.true)) c.at-flow.ensures in
     let more = one-more p (map live (take i items)) (live f) in
-    elim c.if-waits_under.branch [
-      | then-waits_under+in_ok-push w ↦ rw (taken, more, sym c.waits_under.ensures, w.if-waits_under.true, w.sids-is)
+    elim c.if-waits_so.branch [
+      | then-waits_so+in_ok-push w ↦ rw (taken, more, sym c.waits_so.ensures, w.if-waits_so.true, w.sids-is)
           (w.in_ok-push.ensures.items ∙ ap (λ (x : List ℕ). x ++ f.sid ∷ []) c.loop-place.invariant)
-      | else-waits_under w ↦ rw (taken, more, sym c.waits_under.ensures, w.if-waits_under.false, w.sids-is)
+      | else-waits_so w ↦ rw (taken, more, sym c.waits_so.ensures, w.if-waits_so.false, w.sids-is)
           (c.loop-place.invariant ∙ sym (append-nil _))
     ]
 
