@@ -160,8 +160,9 @@ module _ (c : Config) (h : List Entry) (sid : ℕ) (life : Life) (lives : life_o
 
   sound_still : (e : Entry) → map_by e.reply ≡ None → IsSoundFlow c (grown_by c e (flow_in_life c sid life))
   sound_still e none =
-      rw (ungranted sid e.reply none, append-nil)
-      (sound_then c (flow_in_life c sid life) (change_by sid e.call e.reply) (replaced_by c sid e.call e.reply)
+      let f : LiveFlow = flow_in_life c sid life in
+      rw (ungranted sid e.reply none, append-nil f.grants, append-nil f.sustained, append-nil f.peak)
+      (sound_then c f (change_by sid e.call e.reply) (replaced_by c sid e.call e.reply)
       (added_by c sid e.call e.reply) _ sound)
 
   -- a MAP answers no request, and no change

@@ -27,8 +27,8 @@ pub returns-clause-sums : goal.returns-clause-sums
 returns-clause-sums c = λ kind keeps.
     let f = c.args.self.now in
     let spec = c.args.spec in
-    let grants = c.under.result in
-    let are = c.under.ensures in
+    let grants = c.under-self.result in
+    let are = c.under-self.ensures in
     let one = c.change_sustained.new.self in
     let two = c.change_peak.new.self in
     let new = c.change_reserved.new.self in
