@@ -1,5 +1,5 @@
 -- From what the ceilings leave to a flow follow its amount and whether it may be served.
-use Rattle.std.proofs.Common.{◌≡◌, refl, sym, ap, subst, ℕ, ◌<◌, ◌≤◌, ◌==◌, min, Bool, true, false, not, cond, [], ◌∷◌, ◌++◌, nat_eq, IsTrue, ◌↔◌, inl, inr, arith}
+use Rattle.std.proofs.Common.{◌≡◌, refl, sym, ap, subst, ℕ, ◌<◌, ◌≤◌, ◌==◌, min, Bool, true, false, not, cond, nat_eq, IsTrue, ◌↔◌, inl, inr, arith}
 use Rattle.std.proofs.lemmas.Bool.{cases_eq}
 use Rattle.std.proofs.lemmas.Bool.Decides.{nat_tests}
 use Rattle.minislots.specs.declared.config.Config.{Config}
@@ -11,15 +11,14 @@ use Rattle.minislots.proofs.UnitLaws.{fits_bytes, fits_slots}
 use Rattle.sched_calls.specs.FlowSpec.{takes_requests, rate_of, burst_of, peak_of, reserved_of, reserved_burst_of}
 use Rattle.sched_calls.specs.declared.spec.TheConstants.{PEAK_BURST}
 use Rattle.flow_book.specs.declared.limits.Limits.{Limits}
-use Rattle.flow_book.specs.Flows.{LiveFlow, outstanding, in_period, in_peak_period, in_reserved_period}
+use Rattle.flow_book.specs.Flows.{LiveFlow, outstanding, and_grant, HaveStartedBy}
 use Rattle.flow_book.specs.Choice.{KeepsWith, MayGrant, IsAmount, IsMost, IsEligible}
-use Rattle.flow_book.specs.Bucket.{HaveStartedBy, most_of, reserves}
+use Rattle.flow_book.specs.Bucket.{most_of, reserves}
 use Rattle.flow_book.specs.Ceiling.{KeepsCeiling}
 use Rattle.flow_book.specs.Reserved.{wanted_of, is_under}
 use Rattle.flow_book.proofs.Reservation.{both-hold, under-reserves}
-use Rattle.flow_book.specs.Limits.{HasPeriods, AreLimitsOf, most_in, most_with}
+use Rattle.flow_book.specs.Limits.{ChargesAtGrants, AreLimitsOf, most_in, most_with}
 use Rattle.flow_book.proofs.Buckets.{most-within, most-kept, most-greatest}
-use Rattle.flow_book.proofs.Started.{started-drop}
 
 module _ (c : Config) (f : LiveFlow) (start room limit most : ℕ) where
   -- of the bytes up to the limit the flow may have these under its ceiling, and no more
@@ -74,49 +73,40 @@ module _ (c : Config) (f : LiveFlow) (start room limit most : ℕ) where
 
 -- of the bytes up to a limit the flow may have what its buckets have, under its reservation no more than that leaves
 module _ (c : Config) (f : LiveFlow) (l : Limits) (start room limit most : ℕ) (stand : AreLimitsOf c f l)
-    (has : HasPeriods f) (started : HaveStartedBy start f.grants) where
+    (has : ChargesAtGrants f) (started : HaveStartedBy start f.grants) where
   abbrev cap : Bool → ℕ
   cap b = cond b (most_of l.reserved start limit) limit
 
   under : is_under c start f ≡ reserves l.reserved start (wanted_of c f)
   under = under-reserves c f l start stand has started
 
-  began : HaveStartedBy start (in_period f)
-  began = started-drop start f.earlier f.grants started
-
-  began-peak : HaveStartedBy start (in_peak_period f)
-  began-peak = started-drop start f.peak_earlier f.grants started
-
-  began-reserved : HaveStartedBy start (in_reserved_period f)
-  began-reserved = started-drop start f.reserved_earlier f.reserved (has.among start started)
-
   -- what both ceilings leave of some bytes is no more than these
   most-below : (n : ℕ) → most_in l start n ≤ most_of l.peak start n × (most_of l.peak start n ≤ n)
   most-below n = (
-    most-within c (rate_of f.spec) (burst_of f.spec) l.sustained (in_period f) stand.sustained start 0 began
+    most-within c (rate_of f.spec) (burst_of f.spec) l.sustained f.sustained stand.sustained start 0 (has.sustained start started)
         (most_of l.peak start n),
-    most-within c (peak_of f.spec) PEAK_BURST l.peak (in_peak_period f) stand.peak start 0 began-peak n,
+    most-within c (peak_of f.spec) PEAK_BURST l.peak f.peak stand.peak start 0 (has.peak start started) n,
   )
 
   -- and no more than a reservation leaves where that counts
   cap-below : (b : Bool) → cap b ≤ limit
   cap-below true =
-      most-within c (reserved_of f.spec) (reserved_burst_of f.spec) l.reserved (in_reserved_period f) stand.reserved
-      start 0 began-reserved limit
+      most-within c (reserved_of f.spec) (reserved_burst_of f.spec) l.reserved f.reserved stand.reserved
+      start 0 (has.reserved start started) limit
   cap-below false = omega arith
 
   reserved-kept : (b : Bool) (n : ℕ) → is_under c start f ≡ b → n ≤ cap b → is_under c start f ≡ true
       → KeepsCeiling c (reserved_of f.spec) (reserved_burst_of f.spec)
-      (in_reserved_period f ++ record { start = start; bytes = n } ∷ [])
+      (and_grant f.reserved start n)
   reserved-kept true n is le yes' =
-      most-kept c (reserved_of f.spec) (reserved_burst_of f.spec) l.reserved (in_reserved_period f) stand.reserved
-      start n began-reserved limit le
+      most-kept c (reserved_of f.spec) (reserved_burst_of f.spec) l.reserved f.reserved stand.reserved
+      start n (has.reserved start started) limit le
   reserved-kept false n is le yes' = absurd (cc)
 
   cap-greatest : (b : Bool) (n : ℕ) → is_under c start f ≡ b → n ≤ limit → KeepsWith c f start n → n ≤ cap b
   cap-greatest true n is le kept =
-      most-greatest c (reserved_of f.spec) (reserved_burst_of f.spec) l.reserved (in_reserved_period f) stand.reserved
-      start n began-reserved limit le (kept.reserved is)
+      most-greatest c (reserved_of f.spec) (reserved_burst_of f.spec) l.reserved f.reserved stand.reserved
+      start n (has.reserved start started) limit le (kept.reserved is)
   cap-greatest false n is le kept = le
 
   within-by : (b : Bool) → is_under c start f ≡ b → most ≡ most_in l start (cap b) → IsWithin c f start room limit most
@@ -126,18 +116,18 @@ module _ (c : Config) (f : LiveFlow) (l : Limits) (start room limit most : ℕ) 
       record {
         within = omega (arith, same, below.0, below.1, under-cap);
         keeps = λ n some le. record {
-          sustained = most-kept c (rate_of f.spec) (burst_of f.spec) l.sustained (in_period f) stand.sustained start n
-              began (most_of l.peak start (cap b)) (omega (arith, le, same));
-          peak = most-kept c (peak_of f.spec) PEAK_BURST l.peak (in_peak_period f) stand.peak start n began-peak (cap b)
+          sustained = most-kept c (rate_of f.spec) (burst_of f.spec) l.sustained f.sustained stand.sustained start n
+              (has.sustained start started) (most_of l.peak start (cap b)) (omega (arith, le, same));
+          peak = most-kept c (peak_of f.spec) PEAK_BURST l.peak f.peak stand.peak start n (has.peak start started) (cap b)
               (omega (arith, le, same, below.0));
           reserved = reserved-kept b n is (omega (arith, le, same, below.0, below.1));
         };
         greatest = λ n some le kept.
             let low = cap-greatest b n is le kept in
-            let fits = most-greatest c (peak_of f.spec) PEAK_BURST l.peak (in_peak_period f) stand.peak start n
-            began-peak (cap b) low kept.peak in
-            let all = most-greatest c (rate_of f.spec) (burst_of f.spec) l.sustained (in_period f) stand.sustained start
-            n began (most_of l.peak start (cap b)) fits kept.sustained in
+            let fits = most-greatest c (peak_of f.spec) PEAK_BURST l.peak f.peak stand.peak start n
+            (has.peak start started) (cap b) low kept.peak in
+            let all = most-greatest c (rate_of f.spec) (burst_of f.spec) l.sustained f.sustained stand.sustained start
+            n (has.sustained start started) (most_of l.peak start (cap b)) fits kept.sustained in
             omega (arith, all, same);
       }
 
@@ -160,7 +150,7 @@ wanted-whole l start wanted = ap (most_in l start) (whole (reserves l.reserved s
 -- so with the limit of what is outstanding, capped and fits, what the buckets have are the most
 pub most-in-limits : (c : Config) (f : LiveFlow) (l : Limits) (start room limit most : ℕ) → IsLawful c
     → limit ≡ min (min (outstanding f) c.grant_cap) (bytes_in c room)
-    → AreLimitsOf c f l → HasPeriods f → HaveStartedBy start f.grants
+    → AreLimitsOf c f l → ChargesAtGrants f → HaveStartedBy start f.grants
     → most ≡ most_with l start (wanted_of c f) limit → IsMost c f start room most
 most-in-limits c f l start room limit most lawful limits are has started is =
     most-is c f start room limit most (bounds_of c lawful).bursts limits
@@ -192,7 +182,7 @@ module _ (c : Config) (lawful : IsLawful c) (start room : ℕ) where
   ]
 
 -- a flow may have some bytes where its buckets have all of them
-pub keeps-most : (c : Config) (f : LiveFlow) (l : Limits) (start bytes : ℕ) → AreLimitsOf c f l → HasPeriods f
+pub keeps-most : (c : Config) (f : LiveFlow) (l : Limits) (start bytes : ℕ) → AreLimitsOf c f l → ChargesAtGrants f
     → HaveStartedBy start f.grants → KeepsWith c f start bytes → most_with l start (wanted_of c f) bytes ≡ bytes
 keeps-most c f l start bytes stand has started kept =
     let is = limits-within c f l start 0 bytes (most_with l start (wanted_of c f) bytes) stand has started refl in

@@ -1,4 +1,4 @@
--- The grants that a bucket stands for, before and after one more.
+-- The charges that a bucket stands for, before and after one more.
 use Rattle.std.proofs.Common.{◌≡◌, ◌≢◌, refl, sym, ap, ◌∙◌, subst, ℕ, ◌+◌, ◌-◌, ◌*◌, ◌/◌, ◌<◌, ◌≤◌, ◌^◌, ◌==◌, min}
 use Rattle.std.proofs.Common.{List, ◌++◌}
 use Rattle.std.proofs.Common.{false, inl, inr, arith}
@@ -6,12 +6,12 @@ use Rattle.std.proofs.lemmas.Nat.{mul-lt, mul-le}
 use Rattle.std.proofs.lemmas.Bool.{cases_eq}
 use Rattle.std.proofs.lemmas.Bool.Decides.{nat_tests}
 use Rattle.minislots.specs.declared.config.Config.{Config}
-use Rattle.flow_book.specs.declared.flow.Grant.{Grant}
+use Rattle.flow_book.specs.Flows.{Charge, and_grant, AreMadeBy}
 use Rattle.flow_book.specs.Ceiling.{KeepsCeiling}
-use Rattle.flow_book.specs.Bucket.{BucketView, level_of, most_of, HaveStartedBy, StandsFor, IsLevel, IsSettled}
-use Rattle.flow_book.proofs.Windows.{one_more, start-end}
-use Rattle.flow_book.proofs.Levels.{level-keeps, keeps-level, level-more, started-front}
-use Rattle.flow_book.proofs.Started.{started-more}
+use Rattle.flow_book.specs.Bucket.{BucketView, level_of, most_of, StandsFor, IsLevel, IsSettled}
+use Rattle.flow_book.proofs.Windows.{one_charge, start-end}
+use Rattle.flow_book.proofs.Levels.{level-keeps, keeps-level, level-more}
+use Rattle.flow_book.proofs.Started.{made-push, made-front}
 
 -- what a rate brings in a minislot
 pub slow : (ticks rate : ℕ) → ticks ≤ 128 → rate < 2 ^ 32 → ticks * rate < 2 ^ 40
@@ -27,8 +27,8 @@ most-limited b slot limit some =
     let fails : (b.per_slot == 0) ≡ false = grind (arith, nat_tests) in
     rw fails refl
 
-module _ (c : Config) (rate burst : ℕ) (b : BucketView) (grants : List Grant)
-    (stands : StandsFor c rate burst b grants) where
+module _ (c : Config) (rate burst : ℕ) (b : BucketView) (charges : List Charge)
+    (stands : StandsFor c rate burst b charges) where
   -- a bucket into which nothing comes has no ceiling
   pub no-ceiling : b.per_slot ≡ 0 → rate ≡ 0
   no-ceiling none = omega (arith, mul-le 1 rate c.ticks rate stands.ticks (omega arith), stands.per_slot)
@@ -46,41 +46,42 @@ module _ (c : Config) (rate burst : ℕ) (b : BucketView) (grants : List Grant)
       let full : b.full ≡ 0 = rw none at stands.full in
       omega arith
 
-  module _ (slot n : ℕ) (started : HaveStartedBy slot grants) where
-    -- the grants keep the ceiling with one more that the bucket has
-    pub kept-more : 1280000 * n ≤ level_of b slot → KeepsCeiling c rate burst (grants ++ one_more slot n)
+  module _ (slot n : ℕ) (started : AreMadeBy slot charges) where
+    -- the charges keep the ceiling with one more that the bucket has
+    pub kept-more : n ≤ level_of b slot → KeepsCeiling c rate burst (charges ++ one_charge slot n)
     kept-more enough positive =
-        level-keeps c rate burst grants slot n (level_of b slot) (stands.level positive slot started) stands.kept enough
+        level-keeps c rate burst charges slot n (level_of b slot) (stands.level positive slot started) stands.kept enough
         positive
 
     -- and not with one that it has not
-    pub has-more : 0 < b.per_slot → KeepsCeiling c rate burst (grants ++ one_more slot n)
-        → 1280000 * n ≤ level_of b slot
+    pub has-more : 0 < b.per_slot → KeepsCeiling c rate burst (charges ++ one_charge slot n)
+        → n ≤ level_of b slot
     has-more some kept =
         let positive = some-ceiling some in
-        keeps-level c rate burst grants slot n (level_of b slot) (stands.level positive slot started) positive kept
+        keeps-level c rate burst charges slot n (level_of b slot) (stands.level positive slot started) positive kept
 
     -- the bucket after it
     abbrev pub spent : BucketView
-    spent = record b { level = level_of b slot - 1280000 * n; since = slot }
+    spent = record b { level = level_of b slot - n; since = slot }
 
-    -- stands for the grants with this one more
-    pub spent-stands : 1280000 * n ≤ level_of b slot → StandsFor c rate burst spent (grants ++ one_more slot n)
+    -- stands for the charges with this one more
+    pub spent-stands : n ≤ level_of b slot → StandsFor c rate burst spent (charges ++ one_charge slot n)
     spent-stands enough = record {
       ticks = stands.ticks;
       per_slot = stands.per_slot;
       full = stands.full;
       kept = kept-more enough;
-      since = λ later all. (started-front later grants _ all).1;
+      since = λ later all. (made-front later charges _ all).1;
       level = λ positive later all.
           let full : b.full ≡ 1280000 * burst = grind (arith, nat_tests, stands.full) in
-          let past = (started-front later grants _ all).1 in
-          subst (λ m. IsLevel c rate burst (grants ++ one_more slot n) later
-          (min m (level_of b slot - 1280000 * n + (later - slot) * b.per_slot))) (sym full)
-          (level-more c rate burst grants slot n (level_of b slot) (stands.level positive slot started) later b.per_slot
+          let past = (made-front later charges _ all).1 in
+          subst (λ m. IsLevel c rate burst (charges ++ one_charge slot n) later
+          (min m (level_of b slot - n + (later - slot) * b.per_slot))) (sym full)
+          (level-more c rate burst charges slot n (level_of b slot) (stands.level positive slot started) later b.per_slot
           past stands.per_slot enough);
     }
 
+  module _ (slot n : ℕ) (started : AreMadeBy slot charges) where
     -- of the bytes up to a limit it has these at most
     pub most-within : (limit : ℕ) → most_of b slot limit ≤ limit
     most-within limit = elim (cases_eq b.per_slot 0) [
@@ -89,28 +90,28 @@ module _ (c : Config) (rate burst : ℕ) (b : BucketView) (grants : List Grant)
     ]
 
     -- each of which keeps the ceiling
-    pub most-kept : (limit : ℕ) → n ≤ most_of b slot limit → KeepsCeiling c rate burst (grants ++ one_more slot n)
+    pub most-kept : (limit : ℕ) → n ≤ most_of b slot limit → KeepsCeiling c rate burst (and_grant charges slot n)
     most-kept limit le = elim (cases_eq b.per_slot 0) [
       | inl e ↦ (λ positive. absurd (omega (arith, no-ceiling e)))
-      | inr differ ↦ (let most = most-limited b slot limit differ in kept-more (omega arith))
+      | inr differ ↦ (let most = most-limited b slot limit differ in kept-more slot (1280000 * n) started (omega arith))
     ]
 
     -- and no more does
-    pub most-greatest : (limit : ℕ) → n ≤ limit → KeepsCeiling c rate burst (grants ++ one_more slot n)
+    pub most-greatest : (limit : ℕ) → n ≤ limit → KeepsCeiling c rate burst (and_grant charges slot n)
         → n ≤ most_of b slot limit
     most-greatest limit le kept = elim (cases_eq b.per_slot 0) [
       | inl e ↦ (let most = most-limit b slot limit e in omega arith)
-      | inr differ ↦ (let most = most-limited b slot limit differ in omega (arith, has-more (omega arith) kept))
+      | inr differ ↦ (let most = most-limited b slot limit differ in omega (arith, has-more slot (1280000 * n) started (omega arith) kept))
     ]
 
--- a bucket with a ceiling that has less is settled by one grant more, from its start on
-pub settled-spent : (b : BucketView) (grants : List Grant) (slot n left : ℕ) → 0 < b.per_slot → left ≤ b.full
-    → HaveStartedBy slot grants
-    → IsSettled (record b { level = left; since = slot }) (grants ++ one_more slot n)
-settled-spent b grants slot n left some within started = record {
+-- a bucket with a ceiling that has less is settled by one charge more, from its start on
+pub settled-spent : (b : BucketView) (charges : List Charge) (slot n left : ℕ) → 0 < b.per_slot → left ≤ b.full
+    → AreMadeBy slot charges
+    → IsSettled (record b { level = left; since = slot }) (charges ++ one_charge slot n)
+settled-spent b charges slot n left some within started = record {
   level = within;
-  started = λ limited. started-more slot n grants started;
-  last = λ limited. sym (start-end grants slot n);
+  started = λ limited. made-push slot charges (record { start = slot; tokens = n }) started (omega arith);
+  last = λ limited. sym (start-end charges slot n);
   first = λ none. absurd (omega (arith, none, some));
 }
 
@@ -128,16 +129,16 @@ same-fields x y per full level since =
     ∙ ap (λ n. record { per_slot = y.per_slot; full = y.full; level = n; since = x.since }) level
     ∙ ap (λ n. record { per_slot = y.per_slot; full = y.full; level = y.level; since = n }) since
 
--- the grants that it stands for decide a bucket
-pub same-bucket : (c : Config) (rate burst : ℕ) (x y : BucketView) (grants : List Grant)
-    → StandsFor c rate burst x grants
-    → StandsFor c rate burst y grants → IsSettled x grants → IsSettled y grants → x ≡ y
-same-bucket c rate burst x y grants stands stands' is is' =
+-- the charges that it stands for decide a bucket
+pub same-bucket : (c : Config) (rate burst : ℕ) (x y : BucketView) (charges : List Charge)
+    → StandsFor c rate burst x charges
+    → StandsFor c rate burst y charges → IsSettled x charges → IsSettled y charges → x ≡ y
+same-bucket c rate burst x y charges stands stands' is is' =
     let per : x.per_slot ≡ y.per_slot = stands.per_slot ∙ sym stands'.per_slot in
     let full : x.full ≡ y.full = stands.full ∙ sym stands'.full in
     elim (cases_eq x.per_slot 0) [
       | inl none ↦ (
-          let free = no-ceiling c rate burst x grants stands none in
+          let free = no-ceiling c rate burst x charges stands none in
           let empty : x.full ≡ 0 = rw free at stands.full in
           same-fields x y per full (omega (arith, is.level, is'.level)) (omega (
             arith,
@@ -148,7 +149,7 @@ same-bucket c rate burst x y grants stands stands' is is' =
       | inr differ ↦ (
           let some : 0 < x.per_slot = omega arith in
           let some' : 0 < y.per_slot = omega arith in
-          let limited = some-ceiling c rate burst x grants stands some in
+          let limited = some-ceiling c rate burst x charges stands some in
           let early = stands.since y.since (is'.started some') in
           let late = stands'.since x.since (is.started some) in
           let since : x.since ≡ y.since = omega arith in

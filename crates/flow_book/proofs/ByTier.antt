@@ -9,13 +9,12 @@ use Rattle.minislots.specs.declared.config.Config.{Config}
 use Rattle.sched_calls.specs.FlowSpec.{rank_of, peak_of, reserved_of, reserved_burst_of}
 use Rattle.sched_calls.specs.declared.spec.TheConstants.{PEAK_BURST}
 use Rattle.flow_book.specs.declared.flow.Flow.{Flow}
-use Rattle.flow_book.specs.declared.flow.Grant.{Grant}
+use Rattle.flow_book.specs.Flows.{Charge}
 use Rattle.flow_book.specs.declared.limits.Limits.{Limits}
 use Rattle.flow_book.specs.declared.waiting.Waiting.{Waiting}
 use Rattle.flow_book.specs.declared.tiers.Tier.{Tier}
 use Rattle.flow_book.specs.Bucket.{BucketView, StandsFor, IsSettled, HasOneMore, StaysSettled}
 use Rattle.flow_book.specs.Entry.{live, is_plain, KeepsSums}
-use Rattle.flow_book.specs.Flows.{in_peak_period, in_reserved_period}
 use Rattle.flow_book.specs.Queue.{IsAt}
 use Rattle.flow_book.specs.Tiers.{unlimited, limits_by, peak_in, reserved_in, rank_in, limits_in, tier_of, HasTier, IsSpent}
 use Rattle.flow_book.proofs.Buckets.{no-ceiling, same-fields}
@@ -34,11 +33,11 @@ abbrev spent-to : Limits → Option Tier → Option Tier
 spent-to l o = option_map {U = Tier} (λ t. record t { peak = l.peak; reserved = l.reserved }) o
 
 -- the bucket of a rate of 0 holds nothing back
-no-rate : (c : Config) (rate burst : ℕ) (b : BucketView) (grants : List Grant) → StandsFor c rate burst b grants
-    → IsSettled b grants → (b.per_slot == 0) ≡ true → b ≡ unlimited
-no-rate c rate burst b grants stands settled is =
+no-rate : (c : Config) (rate burst : ℕ) (b : BucketView) (charges : List Charge) → StandsFor c rate burst b charges
+    → IsSettled b charges → (b.per_slot == 0) ≡ true → b ≡ unlimited
+no-rate c rate burst b charges stands settled is =
     let none : b.per_slot ≡ 0 = grind (arith, nat_tests) in
-    let free = no-ceiling c rate burst b grants stands none in
+    let free = no-ceiling c rate burst b charges stands none in
     let empty : b.full ≡ 0 = rw free at stands.full in
     same-fields b unlimited none empty (omega (arith, settled.level, empty)) (settled.first none)
 
@@ -46,14 +45,14 @@ no-rate c rate burst b grants stands settled is =
 peak-by : (c : Config) (place : ℕ) (f : Flow) (b : Bool) → is_plain f ≡ b → KeepsSums c f
     → f.limits.peak ≡ option_map_or (λ (t : Tier). t.peak) (tier-if b place f) unlimited
 peak-by c place f true plain keeps =
-    no-rate c (peak_of f.spec) PEAK_BURST f.limits.peak (in_peak_period (live f)) keeps.limits.peak keeps.settled.peak
+    no-rate c (peak_of f.spec) PEAK_BURST f.limits.peak f.grants.peak keeps.limits.peak keeps.settled.peak
     (both-hold (f.limits.peak.per_slot == 0) (f.limits.reserved.per_slot == 0) plain).0
 peak-by c place f false tiered keeps = refl
 
 reserved-by : (c : Config) (place : ℕ) (f : Flow) (b : Bool) → is_plain f ≡ b → KeepsSums c f
     → f.limits.reserved ≡ option_map_or (λ (t : Tier). t.reserved) (tier-if b place f) unlimited
 reserved-by c place f true plain keeps =
-    no-rate c (reserved_of f.spec) (reserved_burst_of f.spec) f.limits.reserved (in_reserved_period (live f))
+    no-rate c (reserved_of f.spec) (reserved_burst_of f.spec) f.limits.reserved f.grants.reserved
     keeps.limits.reserved keeps.settled.reserved
     (both-hold (f.limits.peak.per_slot == 0) (f.limits.reserved.per_slot == 0) plain).1
 reserved-by c place f false tiered keeps = refl

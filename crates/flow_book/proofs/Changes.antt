@@ -10,16 +10,14 @@ use Rattle.sched_calls.proofs.Insertion.{all-set}
 use Rattle.flow_book.specs.declared.flow.Flow.{Flow}
 use Rattle.std.proofs.lemmas.List.Sums.{sum_by-append}
 use Rattle.flow_book.specs.declared.flow.Grant.{Grant}
-use Rattle.flow_book.specs.Flows.{LiveFlow, in_reserved_period}
+use Rattle.flow_book.specs.Flows.{LiveFlow}
 use Rattle.flow_book.specs.Reserved.{is_under, with_grant}
 use Rattle.flow_book.specs.Ceiling.{KeepsCeiling}
 use Rattle.sched_calls.specs.FlowSpec.{reserved_of, reserved_burst_of}
 use Rattle.flow_book.specs.Choice.{MayGrant}
-use Rattle.flow_book.proofs.Windows.{bytes-one}
-use Rattle.flow_book.specs.Limits.{HasPeriods}
 use Rattle.flow_book.specs.Entry.{live, IsSoundFlow, IsSoundBook}
 use Rattle.flow_book.specs.Book.{Ascend, Room, BookView, changed, with_asked, with_replaced}
-use Rattle.flow_book.proofs.Periods.{period-more, peak-more, reserved-more, reserved-same}
+use Rattle.flow_book.proofs.Charges.{reserved-more, reserved-same}
 use Rattle.flow_book.proofs.Places.{StandsAt, all-found}
 
 -- SIDs ascend where a flow takes the place of one with its SID
@@ -130,21 +128,21 @@ pub same-view : (c : Config) (fs gs : List LiveFlow) (rs ss : List Room) → fs 
 same-view c fs gs rs ss flows rooms = rw (flows, rooms)
 
 -- a lawful grant keeps a flow sound
-pub granted-sound : (c : Config) (start bytes room : ℕ) (f : LiveFlow) → IsSoundFlow c f → HasPeriods f
+pub granted-sound : (c : Config) (start bytes room : ℕ) (f : LiveFlow) → IsSoundFlow c f
     → MayGrant c f start room bytes → IsSoundFlow c (with_grant c (record { start = start; bytes = bytes }) f)
-granted-sound c start bytes room f is has may =
+granted-sound c start bytes room f is may =
     let g : Grant = record { start = start; bytes = bytes } in
     let all = sum_by-append (λ (g : Grant). g.bytes) f.grants (g ∷ []) in
     record {
-      within = omega (arith, is.within, may.asked, bytes-one start bytes);
-      kept = rw (period-more c f g has.sustained) may.taken.ceiling.sustained;
-      peak_kept = rw (peak-more c f g has.peak) may.taken.ceiling.peak;
+      within = omega (arith, is.within, may.asked);
+      kept = may.taken.ceiling.sustained;
+      peak_kept = may.taken.ceiling.peak;
       reserved_kept = kept-by (is_under c start f) refl;
     }
   where
     kept-by : (b : Bool) → is_under c start f ≡ b → KeepsCeiling c (reserved_of f.spec) (reserved_burst_of f.spec)
-        (in_reserved_period (with_grant c (record { start = start; bytes = bytes }) f))
+        (with_grant c (record { start = start; bytes = bytes }) f).reserved
     kept-by true under =
-        rw (reserved-more c f (record { start = start; bytes = bytes }) has.reserved under)
+        rw (reserved-more c f (record { start = start; bytes = bytes }) under)
         (may.taken.ceiling.reserved under)
     kept-by false over = rw (reserved-same c f (record { start = start; bytes = bytes }) over) is.reserved_kept

@@ -22,7 +22,7 @@ pub mod InParts
 pub mod Passing
 pub mod Pendings
 pub mod ByTier
-pub mod Periods
+pub mod Charges
 pub mod Places
 pub mod Profile
 pub mod Queues

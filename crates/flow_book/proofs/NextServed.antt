@@ -10,7 +10,7 @@ use Rattle.flow_book.specs.Entry.{live, KeepsSums, IsBook}
 use Rattle.flow_book.specs.Book.{Ascend}
 use Rattle.flow_book.proofs.Places.{StandsAt, placed-at, some-here}
 use Rattle.flow_book.proofs.Changes.{placed-is_sound, granted-sound}
-use Rattle.flow_book.proofs.Sums.{placed-sums, placed-book}
+use Rattle.flow_book.proofs.Sums.{placed-book}
 
 -- the flow at this place is next
 pub record IsFound (c : Config) (items : List Flow) (start room i : ℕ) (f : Flow) : Type 0 where
@@ -32,6 +32,5 @@ module _ (c : Config) (items : List Flow) (start room i : ℕ) (f : Flow) where
       → IsAmount c (live f) start room bytes → KeepsSums c e → IsBook c (set items i e)
   served-book bytes e are is more amount keeps =
       let sound = placed-is_sound c f.sid items i f are.sound is.stands in
-      let has = (placed-sums c f.sid items i f are is.stands).periods in
       placed-book c f.sid items i e f are is.stands (ap (λ (g : LiveFlow). g.sid) more)
-      (rw more (granted-sound c start bytes room (live f) sound has amount.allowed)) keeps
+      (rw more (granted-sound c start bytes room (live f) sound amount.allowed)) keeps

@@ -15,7 +15,7 @@ use Rattle.flow_book.specs.declared.flow.Grant.{Grant}
 use Rattle.flow_book.specs.declared.waiting.Waiting.{Waiting}
 use Rattle.flow_book.specs.declared.tiers.Tier.{Tier}
 use Rattle.flow_book.specs.declared.tiers.TheConstants.{NO_TIER}
-use Rattle.flow_book.specs.Flows.{LiveFlow, outstanding}
+use Rattle.flow_book.specs.Flows.{LiveFlow, and_grant, outstanding}
 use Rattle.flow_book.specs.Reserved.{wanted_of, is_under, with_grant}
 use Rattle.flow_book.specs.Limits.{HasBegunBy, AreLimitsOf, AreSettled, HaveOneMore, StaySettled, most_with}
 use Rattle.flow_book.specs.Choice.{last_start, IsAmount, HasStartedBy}
@@ -33,7 +33,7 @@ use Rattle.flow_book.proofs.Amounts.{amount-of_most, most-in-limits}
 use Rattle.flow_book.proofs.Changes.{placed-changed}
 use Rattle.flow_book.proofs.InParts.{served-each, order-none}
 use Rattle.flow_book.proofs.NextServed.{IsFound, found-next, served-book}
-use Rattle.flow_book.proofs.Periods.{periods-more, limits-more, settled-more, begun-by}
+use Rattle.flow_book.proofs.Charges.{charges-more, limits-more, settled-more, begun-by}
 use Rattle.flow_book.proofs.ByTier.{own-tier, other-tier}
 use Rattle.flow_book.proofs.Queues.{with-one, in-new, in-old, in-one, among-as, among-same, among-others, same-but}
 use Rattle.flow_book.proofs.Queues.{all-both, stands-at, put-among, pass-among, set-here}
@@ -42,8 +42,7 @@ use Rattle.sched_calls.proofs.Removal.{all-filter}
 use Rattle.flow_book.proofs.Once.{all-insert, in-inserted, in-still, once-insert}
 use Rattle.flow_book.proofs.Serving.{StandsIn, stands-at-place, kept-of}
 use Rattle.flow_book.proofs.StillWaiting.{all-at, order-in}
-use Rattle.flow_book.proofs.Sums.{last-more, last-behind, last-started, bytes-added}
-use Rattle.flow_book.proofs.Windows.{one_more}
+use Rattle.flow_book.proofs.Sums.{one_more, last-more, last-behind, last-started, bytes-added}
 
 pub same-all : (flows : List LiveFlow) → AllZip IsSameFlow flows flows
 same-all [] = tt
@@ -111,8 +110,13 @@ can-be-taken c before flows is_long queue served tiers capacity first old o book
 
 same-grown : (c : Config) (f g : LiveFlow) (grant : Grant) → IsSameFlow f g → IsSameFlow f (with_grant c grant g)
 same-grown c f g grant same =
-    ap (λ (h : LiveFlow). record h { grants = (with_grant c grant g).grants; reserved = (with_grant c grant g).reserved })
-    same
+    let more = with_grant c grant g in
+    ap (λ (h : LiveFlow). record h {
+      grants = more.grants;
+      sustained = more.sustained;
+      peak = more.peak;
+      reserved = more.reserved;
+    }) same
 
 -- flows are the same but for their grants where one has a grant more
 pub same-changed : (c : Config) (sid : ℕ) (grant : Grant) (before flows : List LiveFlow) → AllZip IsSameFlow before flows
@@ -169,7 +173,7 @@ module _ (c : Config) (items : List Flow) (tiers : List Tier) (queue served : Li
   pub next-begun : HasBegunBy start (limits_in tiers w)
   next-begun =
       rw (sym next-stands.limits)
-      (begun-by c (live next-stands.flow) next-stands.flow.limits start next-stands.keeps.limits next-stands.keeps.periods
+      (begun-by c (live next-stands.flow) next-stands.flow.limits start next-stands.keeps.limits next-stands.keeps.charges
       next-stands.started)
 
   -- and its turn after a grant is no earlier
@@ -243,7 +247,7 @@ module _ (c : Config) (items : List Flow) (tiers after : List Tier) (queue serve
   amount =
       amount-of_most c lawful start room (live f) bytes found.next.eligible
       (most-in-limits c (live f) f.limits start room (min w.wants more) bytes lawful
-      (omega (arith, cap, stands.wants)) stands.keeps.limits stands.keeps.periods stands.started
+      (omega (arith, cap, stands.wants)) stands.keeps.limits stands.keeps.charges stands.started
       (granted.amount ∙ ap (λ l. most_with l start (min w.wants c.quantum) (min w.wants more)) (sym stands.limits)
       ∙ ap (λ n. most_with f.limits start n (min w.wants more)) wanted))
 
@@ -253,9 +257,12 @@ module _ (c : Config) (items : List Flow) (tiers after : List Tier) (queue serve
     turn = new.turn;
     granted = f.granted + bytes;
     limits = limits_in after new;
-    grants = record f.grants { items = f.grants.items ++ one_more start bytes };
-    reserved = record f.reserved {
-      items = cond (is_under c start (live f)) (f.reserved.items ++ one_more start bytes) f.reserved.items;
+    grants = record f.grants {
+      items = f.grants.items ++ one_more start bytes;
+      sustained = and_grant f.grants.sustained start bytes;
+      peak = and_grant f.grants.peak start bytes;
+      reserved =
+          cond (is_under c start (live f)) (and_grant f.grants.reserved start bytes) f.grants.reserved;
     };
   }
 
@@ -270,11 +277,11 @@ module _ (c : Config) (items : List Flow) (tiers after : List Tier) (queue serve
           (subst (IsTurn (top_rank f.spec) (last_start f.grants.items) f.sid) stands.turn stands.keeps.turn.1)),
     );
     last = last-behind f.grants.items (record { start = start; bytes = bytes }) stands.started;
-    periods = periods-more c (live f) (record { start = start; bytes = bytes }) stands.keeps.periods;
-    limits = limits-more c (live f) (limits_in tiers w) (limits_in after new) start bytes stands.keeps.periods
+    charges = charges-more c (live f) (record { start = start; bytes = bytes }) stands.keeps.charges;
+    limits = limits-more c (live f) (limits_in tiers w) (limits_in after new) start bytes stands.keeps.charges
         stands.started (subst (AreLimitsOf c (live f)) stands.limits stands.keeps.limits)
         (subst (λ n. HaveOneMore (limits_in tiers w) (limits_in after new) start n bytes) wanted granted.limits);
-    settled = settled-more c (live f) (limits_in tiers w) (limits_in after new) start bytes stands.keeps.periods
+    settled = settled-more c (live f) (limits_in tiers w) (limits_in after new) start bytes stands.keeps.charges
         stands.started (subst (AreLimitsOf c (live f)) stands.limits stands.keeps.limits)
         (subst (AreSettled (live f)) stands.limits stands.keeps.settled)
         (subst (λ n. StaySettled (limits_in tiers w) (limits_in after new) start n bytes) wanted granted.settled);

@@ -5,15 +5,13 @@ use Rattle.std.proofs.lemmas.Bool.{cases_eq}
 use Rattle.std.proofs.lemmas.Bool.Decides.{nat_tests}
 use Rattle.minislots.specs.declared.config.Config.{Config}
 use Rattle.sched_calls.specs.FlowSpec.{reserved_of, reserved_burst_of}
-use Rattle.flow_book.specs.declared.flow.Grant.{Grant}
 use Rattle.flow_book.specs.declared.limits.Limits.{Limits}
-use Rattle.flow_book.specs.Flows.{LiveFlow, bytes_of, in_reserved_period}
+use Rattle.flow_book.specs.Flows.{LiveFlow, Charge, charge_of, tokens_of, HaveStartedBy, AreMadeBy}
 use Rattle.flow_book.specs.Ceiling.{start_of}
-use Rattle.flow_book.specs.Bucket.{BucketView, HaveStartedBy, LeaveAtLeast, StandsFor, level_of, most_of, reserves}
-use Rattle.flow_book.specs.Limits.{HasPeriods, AreLimitsOf}
-use Rattle.flow_book.specs.Reserved.{is_within, wanted_of, is_under}
+use Rattle.flow_book.specs.Bucket.{BucketView, LeaveAtLeast, StandsFor, level_of, most_of, reserves}
+use Rattle.flow_book.specs.Limits.{ChargesAtGrants, AreLimitsOf}
+use Rattle.flow_book.specs.Reserved.{is_within, wanted_of, wanted_charge, is_under}
 use Rattle.flow_book.proofs.Buckets.{no-ceiling, most-limited}
-use Rattle.flow_book.proofs.Started.{started-drop}
 
 -- both of two tests hold that hold together
 pub both-hold : (a b : Bool) → (a && b) ≡ true → (a ≡ true) × (b ≡ true)
@@ -22,60 +20,60 @@ both-hold true false is = absurd (cc)
 both-hold false b is = absurd (cc)
 
 module _ (c : Config) (rate burst slot n : ℕ) where
-  abbrev one : Grant
-  one = record { start = slot; bytes = n }
+  abbrev one : Charge
+  one = charge_of (record { start = slot; bytes = n })
 
-  -- one grant more keeps a rate and a burst where its bytes are no more than each window leaves
-  left-of : (grants : List Grant) → is_within c rate burst one grants ≡ true
-      → LeaveAtLeast c rate burst grants slot (1280000 * n)
+  -- one charge more keeps a rate and a burst where its tokens are no more than each window leaves
+  left-of : (charges : List Charge) → is_within c rate burst one charges ≡ true
+      → LeaveAtLeast c rate burst charges slot (1280000 * n)
   left-of [] is = record { empty = grind (arith, nat_tests); each = λ i lt. absurd (omega arith) }
-  left-of (h ∷ grants) is =
-      let both = both-hold (nat_le (1280000 * (bytes_of (h ∷ grants) + n) + h.start * c.ticks * rate)
-      (slot * c.ticks * rate + 1280000 * burst)) (is_within c rate burst one grants) is in
-      let more = left-of grants both.1 in
+  left-of (h ∷ charges) is =
+      let both = both-hold (nat_le (tokens_of (h ∷ charges) + 1280000 * n + h.start * c.ticks * rate)
+      (slot * c.ticks * rate + 1280000 * burst)) (is_within c rate burst one charges) is in
+      let more = left-of charges both.1 in
       record {
         empty = more.empty;
         each = λ i lt. each-of i lt both.0 more;
       }
     where
-      each-of : (i : ℕ) → i < length (h ∷ grants)
-          → nat_le (1280000 * (bytes_of (h ∷ grants) + n) + h.start * c.ticks * rate)
-          (slot * c.ticks * rate + 1280000 * burst) ≡ true → LeaveAtLeast c rate burst grants slot (1280000 * n)
-          → 1280000 * bytes_of (drop i (h ∷ grants)) + 1280000 * n
-          + start_of (h ∷ grants) i * c.ticks * rate ≤ slot * c.ticks * rate + 1280000 * burst
+      each-of : (i : ℕ) → i < length (h ∷ charges)
+          → nat_le (tokens_of (h ∷ charges) + 1280000 * n + h.start * c.ticks * rate)
+          (slot * c.ticks * rate + 1280000 * burst) ≡ true → LeaveAtLeast c rate burst charges slot (1280000 * n)
+          → tokens_of (drop i (h ∷ charges)) + 1280000 * n
+          + start_of (h ∷ charges) i * c.ticks * rate ≤ slot * c.ticks * rate + 1280000 * burst
       each-of zero lt here more = grind (arith, nat_tests)
       each-of (suc i) lt here more = more.each i (omega arith)
 
   -- and only there
-  within-of : (grants : List Grant) → LeaveAtLeast c rate burst grants slot (1280000 * n)
-      → is_within c rate burst one grants ≡ true
+  within-of : (charges : List Charge) → LeaveAtLeast c rate burst charges slot (1280000 * n)
+      → is_within c rate burst one charges ≡ true
   within-of [] is = let le = is.empty in grind (arith, nat_tests)
-  within-of (h ∷ grants) is =
+  within-of (h ∷ charges) is =
       let le = is.each 0 (omega arith) in
-      let first : nat_le (1280000 * (bytes_of (h ∷ grants) + n) + h.start * c.ticks * rate)
+      let first : nat_le (tokens_of (h ∷ charges) + 1280000 * n + h.start * c.ticks * rate)
       (slot * c.ticks * rate + 1280000 * burst) ≡ true = grind (arith, nat_tests) in
-      rw (first, within-of grants (record { empty = is.empty; each = λ i lt. is.each (suc i) (omega arith) })) refl
+      rw (first, within-of charges (record { empty = is.empty; each = λ i lt. is.each (suc i) (omega arith) })) refl
 
-module _ (c : Config) (rate burst slot n : ℕ) (b : BucketView) (grants : List Grant)
-    (stands : StandsFor c rate burst b grants) (began : HaveStartedBy slot grants) where
-  within-by : (w : Bool) → is_within c rate burst (one c rate burst slot n) grants ≡ w → 0 < rate → b.per_slot ≢ 0
+module _ (c : Config) (rate burst slot n : ℕ) (b : BucketView) (charges : List Charge)
+    (stands : StandsFor c rate burst b charges) (began : AreMadeBy slot charges) where
+  within-by : (w : Bool) → is_within c rate burst (one c rate burst slot n) charges ≡ w → 0 < rate → b.per_slot ≢ 0
       → w ≡ reserves b slot n
   within-by true is some limited =
-      let le = (stands.level some slot began).greatest (1280000 * n) (left-of c rate burst slot n grants is) in
+      let le = (stands.level some slot began).greatest (1280000 * n) (left-of c rate burst slot n charges is) in
       let most = most-limited b slot n limited in
       let whole : (most_of b slot n == n) ≡ true = grind (arith, nat_tests) in
       let has : (b.per_slot == 0) ≡ false = grind (arith, nat_tests) in
       sym (rw (whole, has) refl)
   within-by false is some limited =
       let most = most-limited b slot n limited in
-      let left : 1280000 * n ≤ level_of b slot → LeaveAtLeast c rate burst grants slot (1280000 * n) = λ le.
+      let left : 1280000 * n ≤ level_of b slot → LeaveAtLeast c rate burst charges slot (1280000 * n) = λ le.
       let of = (stands.level some slot began).left in
       record {
         empty = omega (arith, of.empty, le);
         each = λ i lt. omega (arith, of.each i lt, le);
       } in
       let over : 1280000 * n ≤ level_of b slot → ⊥ = λ le.
-      let yes' = within-of c rate burst slot n grants (left le) in absurd (cc) in
+      let yes' = within-of c rate burst slot n charges (left le) in absurd (cc) in
       let fails : (most_of b slot n == n) ≡ false = elim (cases_eq (most_of b slot n) n) [
         | inl same ↦ absurd (over (omega (arith, most, same)))
         | inr differ ↦ grind (arith, nat_tests)
@@ -83,8 +81,8 @@ module _ (c : Config) (rate burst slot n : ℕ) (b : BucketView) (grants : List 
       let has : (b.per_slot == 0) ≡ false = grind (arith, nat_tests) in
       sym (rw (fails, has) refl)
 
-  -- grants with one more keep a reserved rate and its burst where the bucket reserves its bytes
-  pub within-reserves : (nat_lt 0 rate && is_within c rate burst (one c rate burst slot n) grants) ≡ reserves b slot n
+  -- charges with one more keep a reserved rate and its burst where the bucket reserves its bytes
+  pub within-reserves : (nat_lt 0 rate && is_within c rate burst (one c rate burst slot n) charges) ≡ reserves b slot n
   within-reserves = elim (cases_eq rate 0) [
     | inl none ↦ (
         let slow : b.per_slot ≡ 0 = let is = rw none at stands.per_slot in omega (arith, is) in
@@ -92,22 +90,22 @@ module _ (c : Config) (rate burst slot n : ℕ) (b : BucketView) (grants : List 
         let has : (b.per_slot == 0) ≡ true = grind (arith, nat_tests) in
         rw (no', has) refl)
     | inr some ↦ (
-        let limited : b.per_slot ≢ 0 = λ none. some (no-ceiling c rate burst b grants stands none) in
+        let limited : b.per_slot ≢ 0 = λ none. some (no-ceiling c rate burst b charges stands none) in
         let yes' : nat_lt 0 rate ≡ true = grind (arith, nat_tests) in
-        rw yes' (within-by (is_within c rate burst (one c rate burst slot n) grants) refl (omega arith) limited))
+        rw yes' (within-by (is_within c rate burst (one c rate burst slot n) charges) refl (omega arith) limited))
   ]
 
 -- so a flow is under its reservation where its bucket reserves what the flow wants at least
-pub under-reserves : (c : Config) (f : LiveFlow) (l : Limits) (slot : ℕ) → AreLimitsOf c f l → HasPeriods f
+pub under-reserves : (c : Config) (f : LiveFlow) (l : Limits) (slot : ℕ) → AreLimitsOf c f l → ChargesAtGrants f
     → HaveStartedBy slot f.grants → is_under c slot f ≡ reserves l.reserved slot (wanted_of c f)
 under-reserves c f l slot are has started =
     within-reserves c (reserved_of f.spec) (reserved_burst_of f.spec) slot (wanted_of c f) l.reserved
-    (in_reserved_period f) are.reserved (started-drop slot f.reserved_earlier f.reserved (has.among slot started))
+    f.reserved are.reserved (has.reserved slot started)
 
 -- a flow under its reservation has one
 pub under-reserved : (c : Config) (slot : ℕ) (f : LiveFlow) → is_under c slot f ≡ true → 0 < reserved_of f.spec
 under-reserved c slot f is =
     let both = both-hold (nat_lt 0 (reserved_of f.spec)) (is_within c (reserved_of f.spec) (reserved_burst_of f.spec)
-    (record { start = slot; bytes = wanted_of c f }) (in_reserved_period f)) is in
+    (wanted_charge c slot f) f.reserved) is in
     let some = both.0 in
     grind (arith, nat_tests)

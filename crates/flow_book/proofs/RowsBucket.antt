@@ -1,7 +1,6 @@
 -- Worked examples of a token bucket: minislots of 4 ticks, 64000 bits in a second, bursts of 1600 bytes.
 use Rattle.std.proofs.Common.{◌≡◌, ℕ, zero, suc, ◌+◌, ◌-◌, ◌*◌, ◌<◌, ◌≤◌, drop, List, [], ◌∷◌, refl, lit<, lit≤, arith}
-use Rattle.flow_book.specs.declared.flow.Grant.{Grant}
-use Rattle.flow_book.specs.Flows.{bytes_of}
+use Rattle.flow_book.specs.Flows.{Charge, charges_of, tokens_of}
 use Rattle.flow_book.specs.Ceiling.{start_of}
 use Rattle.flow_book.specs.Bucket.{BucketView, level_of, IsLevel, most_of}
 use Rattle.sched_calls.proofs.Base.{base}
@@ -25,12 +24,12 @@ two_grants_leave_528_bytes = (refl, refl)
 pub the_rate_brings_eight_bytes : (level_of (bucket 0 924) 924 ≡ 0) × (level_of (bucket 0 924) 964 ≡ 10240000)
 the_rate_brings_eight_bytes = (refl, refl)
 
--- the grants after which it has 675840000 at 924
-abbrev two : List Grant
-two = grant 844 544 ∷ grant 884 544 ∷ []
+-- what the grants charge after which it has 675840000 at 924
+abbrev two : List Charge
+two = charges_of (grant 844 544 ∷ grant 884 544 ∷ [])
 
 -- each window of them leaves so much
-two_leave : (i : ℕ) → i < 2 → 1280000 * bytes_of (drop i two) + 675840000 + start_of two i * 4 * 64000
+two_leave : (i : ℕ) → i < 2 → tokens_of (drop i two) + 675840000 + start_of two i * 4 * 64000
     ≤ 924 * 4 * 64000 + 1280000 * 1600
 two_leave zero lt = lit≤ tt
 two_leave (suc zero) lt = lit≤ tt

@@ -3,7 +3,7 @@ use Rattle.std.proofs.Common.{ℕ, zero, suc, ◌+◌, ◌*◌, ◌<◌, ◌≤�
 use Rattle.sched_calls.specs.declared.spec.FlowSpec.TheVariants.{Polled, BestEffort}
 use Rattle.flow_book.specs.declared.flow.Grant.{Grant}
 use Rattle.flow_book.proofs.Profile.{one_request}
-use Rattle.flow_book.specs.Flows.{LiveFlow, bytes_of}
+use Rattle.flow_book.specs.Flows.{LiveFlow, charges_of, tokens_of}
 use Rattle.flow_book.specs.Ceiling.{window, start_of}
 use Rattle.flow_book.specs.Choice.{MayTake, MayGrant, IsAmount, IsEligible, IsNext}
 use Rattle.sched_calls.proofs.Base.{base}
@@ -17,10 +17,9 @@ under_ceiling grants = record {
   asked = 3000;
   batches = one_request 3000 801;
   grants = grants;
-  earlier = 0;
-  peak_earlier = 0;
+  sustained = charges_of grants;
+  peak = charges_of grants;
   reserved = [];
-  reserved_earlier = 0;
 }
 
 -- a grant
@@ -33,8 +32,8 @@ two bytes = grant 844 544 ∷ grant 884 bytes ∷ []
 
 -- before its second grant it may take up to 544 bytes at 884
 kept_by_two : (bytes : ℕ) → bytes ≤ 544 → (i j : ℕ) → i ≤ j → j < 2
-    → 1280000 * bytes_of (window (two bytes) i j) + start_of (two bytes) i * 4 * 64000
-    ≤ start_of (two bytes) j * 4 * 64000 + 1280000 * 1600
+    → tokens_of (window (charges_of (two bytes)) i j) + start_of (charges_of (two bytes)) i * 4 * 64000
+    ≤ start_of (charges_of (two bytes)) j * 4 * 64000 + 1280000 * 1600
 kept_by_two bytes few zero zero h k = lit≤ tt
 kept_by_two bytes few zero (suc zero) h k = omega arith
 kept_by_two bytes few (suc zero) zero h k = absurd (omega arith)
@@ -76,8 +75,8 @@ three bytes = grant 844 544 ∷ grant 884 544 ∷ grant 924 bytes ∷ []
 
 -- each window of three grants with at most 528 bytes in the last keeps the ceiling
 pub kept : (bytes : ℕ) → bytes ≤ 528 → (i j : ℕ) → i ≤ j → j < 3
-    → 1280000 * bytes_of (window (three bytes) i j) + start_of (three bytes) i * 4 * 64000
-    ≤ start_of (three bytes) j * 4 * 64000 + 1280000 * 1600
+    → tokens_of (window (charges_of (three bytes)) i j) + start_of (charges_of (three bytes)) i * 4 * 64000
+    ≤ start_of (charges_of (three bytes)) j * 4 * 64000 + 1280000 * 1600
 kept bytes few zero zero h k = lit≤ tt
 kept bytes few zero (suc zero) h k = lit≤ tt
 kept bytes few zero (suc (suc zero)) h k = omega arith

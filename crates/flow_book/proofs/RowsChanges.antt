@@ -1,7 +1,7 @@
 -- Worked examples of requests that replace others, and of flows that change.
 use Rattle.std.proofs.Common.{◌≡◌, ℕ, ◌*◌, [], ◌∷◌, false, true, refl, lit<, lit≤, arith}
 use Rattle.sched_calls.specs.declared.spec.FlowSpec.TheVariants.{BestEffort}
-use Rattle.flow_book.specs.Flows.{LiveFlow, granted, outstanding, in_period}
+use Rattle.flow_book.specs.Flows.{LiveFlow, charges_of, granted, outstanding}
 use Rattle.flow_book.specs.Reserved.{with_grant}
 use Rattle.flow_book.specs.Book.{with_asked, with_replaced, with_spec}
 use Rattle.flow_book.specs.Shown.{waits, since}
@@ -21,10 +21,9 @@ served_in_part = record {
   asked = 1000;
   batches = one_request 1000 801;
   grants = grant 844 544 ∷ [];
-  earlier = 0;
-  peak_earlier = 0;
+  sustained = charges_of (grant 844 544 ∷ []);
+  peak = charges_of (grant 844 544 ∷ []);
   reserved = [];
-  reserved_earlier = 0;
 }
 
 -- it with 200 bytes in the place of the 456 that were outstanding
@@ -77,17 +76,17 @@ abbrev other_burst : LiveFlow
 other_burst = with_spec (BestEffort 3 64000 600 0 0 0) limited
 
 -- its two grants came before the present period, of which the next one is the first
-pub another_burst_begins_a_period : (other_burst.earlier ≡ 2) × (in_period other_burst ≡ [])
-    × (in_period (with_grant base (grant 924 544) other_burst) ≡ grant 924 544 ∷ [])
+pub another_burst_begins_a_period : (other_burst.grants ≡ limited.grants) × (other_burst.sustained ≡ [])
+    × ((with_grant base (grant 924 544) other_burst).sustained ≡ charges_of (grant 924 544 ∷ []))
 another_burst_begins_a_period = (refl, refl, refl)
 
 -- another rate begins one too, and so does the one before again
-pub another_rate_begins_a_period : ((with_spec (BestEffort 3 128000 1600 0 0 0) limited).earlier ≡ 2)
-    × ((with_spec (BestEffort 3 64000 1600 0 0 0) (with_grant base (grant 924 544) other_burst)).earlier ≡ 3)
+pub another_rate_begins_a_period : ((with_spec (BestEffort 3 128000 1600 0 0 0) limited).sustained ≡ [])
+    × ((with_spec (BestEffort 3 64000 1600 0 0 0) (with_grant base (grant 924 544) other_burst)).sustained ≡ [])
 another_rate_begins_a_period = (refl, refl)
 
 -- at 924 it has the whole burst: 600 bytes
-pub a_period_begins_full : IsLevel base 64000 600 (in_period other_burst) 924 (1280000 * 600)
+pub a_period_begins_full : IsLevel base 64000 600 other_burst.sustained 924 (1280000 * 600)
 a_period_begins_full = record {
   left = record { empty = lit≤ tt; each = λ i lt. absurd (omega arith) };
   greatest = λ more leave. leave.empty;
@@ -114,8 +113,8 @@ abbrev other_priority : LiveFlow
 other_priority = with_spec (BestEffort 5 64000 1600 0 0 0) limited
 
 -- its period goes on
-pub another_priority_begins_no_period : (other_priority.earlier ≡ 0) × (in_period other_priority ≡ limited.grants)
-another_priority_begins_no_period = (refl, refl)
+pub another_priority_begins_no_period : other_priority.sustained ≡ charges_of limited.grants
+another_priority_begins_no_period = refl
 
 -- so its third grant has the 528 bytes that it had without the change
 pub the_third_grant_after_another_priority_is_at_the_ceiling : IsAmount base other_priority 924 36 528

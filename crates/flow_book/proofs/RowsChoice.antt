@@ -10,11 +10,11 @@ use Rattle.flow_book.proofs.Unlimited.{IsEligible-unlimited}
 
 -- a flow of priority 1 with 544 bytes to be granted
 abbrev pub low : LiveFlow
-low = record { sid = 20; spec = BestEffort 1 0 0 0 0 0; asked = 544; batches = no_batches; grants = []; earlier = 0; peak_earlier = 0; reserved = []; reserved_earlier = 0 }
+low = record { sid = 20; spec = BestEffort 1 0 0 0 0 0; asked = 544; batches = no_batches; grants = []; sustained = []; peak = []; reserved = [] }
 
 -- a flow of priority 5 with as many
 abbrev pub high : LiveFlow
-high = record { sid = 21; spec = BestEffort 5 0 0 0 0 0; asked = 544; batches = no_batches; grants = []; earlier = 0; peak_earlier = 0; reserved = []; reserved_earlier = 0 }
+high = record { sid = 21; spec = BestEffort 5 0 0 0 0 0; asked = 544; batches = no_batches; grants = []; sustained = []; peak = []; reserved = [] }
 
 -- either may be served behind the request region
 low_is_eligible : IsEligible base 844 36 low
@@ -46,10 +46,9 @@ lower_sid = record {
   asked = 1000;
   batches = one_request 1000 801;
   grants = [];
-  earlier = 0;
-  peak_earlier = 0;
+  sustained = [];
+  peak = [];
   reserved = [];
-  reserved_earlier = 0;
 }
 
 -- a flow of the next SID that is the same otherwise
@@ -66,12 +65,12 @@ the_lower_sid_is_next = record {
 
 -- a flow of priority 7, the highest, with 544 bytes to be granted
 abbrev pub highest : LiveFlow
-highest = record { sid = 20; spec = BestEffort 7 0 0 0 0 0; asked = 544; batches = no_batches; grants = []; earlier = 0; peak_earlier = 0; reserved = []; reserved_earlier = 0 }
+highest = record { sid = 20; spec = BestEffort 7 0 0 0 0 0; asked = 544; batches = no_batches; grants = []; sustained = []; peak = []; reserved = [] }
 
 -- a polled flow of a higher SID with as many
 abbrev pub polled_waiting : LiveFlow
 polled_waiting =
-    record { sid = 21; spec = Polled 5000 0 0 0 0; asked = 544; batches = no_batches; grants = []; earlier = 0; peak_earlier = 0; reserved = []; reserved_earlier = 0 }
+    record { sid = 21; spec = Polled 5000 0 0 0 0; asked = 544; batches = no_batches; grants = []; sustained = []; peak = []; reserved = [] }
 
 polled_is_eligible : IsEligible base 844 36 polled_waiting
 polled_is_eligible = IsEligible-unlimited base polled_waiting 844 36 refl refl refl refl (lit< tt) (lit≤ tt)

@@ -1,7 +1,7 @@
 -- Worked examples of data grants under a peak rate.
 use Rattle.std.proofs.Common.{◌≡◌, ℕ, zero, suc, ◌+◌, ◌*◌, ◌≤◌, ◌<◌, [], refl, lit<, lit≤, arith}
 use Rattle.sched_calls.specs.declared.spec.FlowSpec.TheVariants.{Polled, BestEffort}
-use Rattle.flow_book.specs.Flows.{LiveFlow, bytes_of, in_period, in_peak_period}
+use Rattle.flow_book.specs.Flows.{LiveFlow, charges_of, tokens_of}
 use Rattle.flow_book.specs.Book.{with_spec}
 use Rattle.flow_book.specs.Ceiling.{window, start_of}
 use Rattle.flow_book.specs.Choice.{IsAmount, IsEligible}
@@ -14,8 +14,8 @@ peaking = record limited { spec = BestEffort 3 0 0 64000 0 0 }
 
 -- each window of three grants with at most 450 bytes in the last keeps it: 1522 bytes and the 16 of 80 minislots
 kept_by_peak : (bytes : ℕ) → bytes ≤ 450 → (i j : ℕ) → i ≤ j → j < 3
-    → 1280000 * bytes_of (window (three bytes) i j) + start_of (three bytes) i * 4 * 64000
-    ≤ start_of (three bytes) j * 4 * 64000 + 1280000 * 1522
+    → tokens_of (window (charges_of (three bytes)) i j) + start_of (charges_of (three bytes)) i * 4 * 64000
+    ≤ start_of (charges_of (three bytes)) j * 4 * 64000 + 1280000 * 1522
 kept_by_peak bytes few zero zero h k = lit≤ tt
 kept_by_peak bytes few zero (suc zero) h k = lit≤ tt
 kept_by_peak bytes few zero (suc (suc zero)) h k = omega arith
@@ -78,12 +78,12 @@ a_polled_flow_at_its_peak_is_not_eligible e =
 
 -- another peak rate begins a period of it, and leaves that of the ceiling
 pub another_peak_begins_its_period :
-    (in_peak_period (with_spec (BestEffort 3 64000 1600 128000 0 0) both) ≡ [])
-    × (in_period (with_spec (BestEffort 3 64000 1600 128000 0 0) both) ≡ both.grants)
+    ((with_spec (BestEffort 3 64000 1600 128000 0 0) both).peak ≡ [])
+    × ((with_spec (BestEffort 3 64000 1600 128000 0 0) both).sustained ≡ charges_of both.grants)
 another_peak_begins_its_period = (refl, refl)
 
 -- and another rate leaves that of the peak rate
 pub another_rate_leaves_the_peak :
-    (in_peak_period (with_spec (BestEffort 3 128000 1600 64000 0 0) both) ≡ both.grants)
-    × (in_period (with_spec (BestEffort 3 128000 1600 64000 0 0) both) ≡ [])
+    ((with_spec (BestEffort 3 128000 1600 64000 0 0) both).peak ≡ charges_of both.grants)
+    × ((with_spec (BestEffort 3 128000 1600 64000 0 0) both).sustained ≡ [])
 another_rate_leaves_the_peak = (refl, refl)

@@ -2,7 +2,7 @@
 use Rattle.std.proofs.Common.{◌≡◌, List, [], ◌∷◌, true, false, refl, lit<, lit≤, arith}
 use Rattle.sched_calls.specs.declared.spec.FlowSpec.TheVariants.{Polled, BestEffort}
 use Rattle.flow_book.specs.declared.flow.Grant.{Grant}
-use Rattle.flow_book.specs.Flows.{LiveFlow, in_period, in_reserved_period}
+use Rattle.flow_book.specs.Flows.{LiveFlow, charges_of}
 use Rattle.flow_book.specs.Reserved.{wanted_of, is_under, waits_under, rank_at, with_grant}
 use Rattle.flow_book.specs.Book.{with_spec}
 use Rattle.flow_book.specs.Choice.{IsAmount, is_before}
@@ -20,10 +20,9 @@ reserving grants reserved = record {
   asked = 3000;
   batches = one_request 3000 801;
   grants = grants;
-  earlier = 0;
-  peak_earlier = 0;
-  reserved = reserved;
-  reserved_earlier = 0;
+  sustained = charges_of grants;
+  peak = charges_of grants;
+  reserved = charges_of reserved;
 }
 
 -- it before any grant
@@ -64,8 +63,8 @@ served_lower = with_grant base (grant 850 500) served
 -- that grant is no reserved one, nor is one at 883, and one at 884 is
 pub a_grant_is_reserved_where_the_flow_is_under :
     (served_lower ≡ reserving (grant 844 64 ∷ grant 850 500 ∷ []) (grant 844 64 ∷ []))
-    × ((with_grant base (grant 883 64) served).reserved ≡ grant 844 64 ∷ [])
-    × ((with_grant base (grant 884 64) served).reserved ≡ grant 844 64 ∷ grant 884 64 ∷ [])
+    × ((with_grant base (grant 883 64) served).reserved ≡ charges_of (grant 844 64 ∷ []))
+    × ((with_grant base (grant 884 64) served).reserved ≡ charges_of (grant 844 64 ∷ grant 884 64 ∷ []))
 a_grant_is_reserved_where_the_flow_is_under = (refl, refl, refl)
 
 -- so it takes nothing of the reservation, which has the quantum at 884 all the same
@@ -107,23 +106,22 @@ a_reservation_is_served_with_the_polled_flows = (refl, refl, refl)
 
 -- another reserved burst alone begins a period behind the reserved grant, and leaves that of the ceiling
 pub another_reserved_burst_begins_a_period :
-    ((with_spec (BestEffort 3 0 0 0 512000 128) served_lower).reserved_earlier ≡ 1)
-    × (in_reserved_period (with_spec (BestEffort 3 0 0 0 512000 128) served_lower) ≡ [])
-    × (in_period (with_spec (BestEffort 3 0 0 0 512000 128) served_lower) ≡ served_lower.grants)
-another_reserved_burst_begins_a_period = (refl, refl, refl)
+    ((with_spec (BestEffort 3 0 0 0 512000 128) served_lower).reserved ≡ [])
+    × ((with_spec (BestEffort 3 0 0 0 512000 128) served_lower).sustained ≡ charges_of served_lower.grants)
+another_reserved_burst_begins_a_period = (refl, refl)
 
 -- and so does another reserved rate alone: the flow is under its reservation again
 pub another_reserved_rate_begins_a_period :
-    ((with_spec (BestEffort 3 0 0 0 256000 64) served_lower).reserved_earlier ≡ 1)
+    ((with_spec (BestEffort 3 0 0 0 256000 64) served_lower).reserved ≡ [])
     × (is_under base 851 (with_spec (BestEffort 3 0 0 0 256000 64) served_lower) ≡ true)
 another_reserved_rate_begins_a_period = (refl, refl)
 
 -- another priority begins none, and neither does another ceiling, which begins its own behind both grants
 pub another_priority_or_ceiling_begins_none :
-    ((with_spec (BestEffort 5 0 0 0 512000 64) served_lower).reserved_earlier ≡ 0)
+    ((with_spec (BestEffort 5 0 0 0 512000 64) served_lower).reserved ≡ served_lower.reserved)
     × (is_under base 851 (with_spec (BestEffort 5 0 0 0 512000 64) served_lower) ≡ false)
-    × ((with_spec (BestEffort 3 64000 1600 0 512000 64) served_lower).reserved_earlier ≡ 0)
-    × ((with_spec (BestEffort 3 64000 1600 0 512000 64) served_lower).earlier ≡ 2)
+    × ((with_spec (BestEffort 3 64000 1600 0 512000 64) served_lower).reserved ≡ served_lower.reserved)
+    × ((with_spec (BestEffort 3 64000 1600 0 512000 64) served_lower).sustained ≡ [])
 another_priority_or_ceiling_begins_none = (refl, refl, refl, refl)
 
 -- under its reservation the flow is granted the 64 bytes that it has, where the frame has room for 544

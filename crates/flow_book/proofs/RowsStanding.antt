@@ -2,7 +2,7 @@
 use Rattle.std.proofs.Common.{◌≡◌, List, [], ◌∷◌, true, false, refl}
 use Rattle.sched_calls.specs.declared.spec.FlowSpec.TheVariants.{BestEffort}
 use Rattle.flow_book.specs.declared.flow.Grant.{Grant}
-use Rattle.flow_book.specs.Flows.{LiveFlow}
+use Rattle.flow_book.specs.Flows.{LiveFlow, charges_of}
 use Rattle.flow_book.specs.Standing.{waits_held}
 use Rattle.sched_calls.proofs.Base.{base}
 use Rattle.flow_book.proofs.Profile.{one_request}
@@ -17,10 +17,9 @@ slow grants = record {
   asked = 3000;
   batches = one_request 3000 801;
   grants = grants;
-  earlier = 0;
-  peak_earlier = 0;
+  sustained = charges_of grants;
+  peak = charges_of grants;
   reserved = [];
-  reserved_earlier = 0;
 }
 
 -- before any grant the burst has the quantum; behind one of 64 bytes it is there again 320 minislots later

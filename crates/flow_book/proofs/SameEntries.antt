@@ -7,7 +7,7 @@ use Rattle.sched_calls.specs.FlowSpec.{rate_of, burst_of, peak_of, reserved_of, 
 use Rattle.sched_calls.specs.declared.spec.TheConstants.{PEAK_BURST}
 use Rattle.flow_book.specs.declared.flow.Flow.{Flow}
 use Rattle.flow_book.specs.declared.waiting.Waiting.{Waiting}
-use Rattle.flow_book.specs.Flows.{LiveFlow, outstanding, in_period, in_peak_period, in_reserved_period}
+use Rattle.flow_book.specs.Flows.{LiveFlow, outstanding}
 use Rattle.flow_book.specs.Limits.{AreLimitsOf, AreSettled}
 use Rattle.flow_book.specs.declared.limits.Limits.{Limits}
 use Rattle.flow_book.specs.Bucket.{BucketView}
@@ -27,10 +27,10 @@ limits-decided : (c : Config) (f : LiveFlow) (x y : Limits) → AreLimitsOf c f 
     → AreSettled f y → x ≡ y
 limits-decided c f x y are are' is is' =
     same-limits x y
-    (same-bucket c (rate_of f.spec) (burst_of f.spec) x.sustained y.sustained (in_period f) are.sustained are'.sustained
+    (same-bucket c (rate_of f.spec) (burst_of f.spec) x.sustained y.sustained f.sustained are.sustained are'.sustained
     is.sustained is'.sustained)
-    (same-bucket c (peak_of f.spec) PEAK_BURST x.peak y.peak (in_peak_period f) are.peak are'.peak is.peak is'.peak)
-    (same-bucket c (reserved_of f.spec) (reserved_burst_of f.spec) x.reserved y.reserved (in_reserved_period f)
+    (same-bucket c (peak_of f.spec) PEAK_BURST x.peak y.peak f.peak are.peak are'.peak is.peak is'.peak)
+    (same-bucket c (reserved_of f.spec) (reserved_burst_of f.spec) x.reserved y.reserved f.reserved
     are.reserved are'.reserved is.reserved is'.reserved)
 
 -- flows that show the same and keep their sums have the same entry

@@ -18,10 +18,9 @@ use Rattle.minislots.specs.Config.{IsLawful}
 use Rattle.minislots.specs.Units.{bytes_in}
 use Rattle.minislots.proofs.Bounds.{bounds_of}
 use Rattle.minislots.proofs.UnitLaws.{fits_bytes, fits_slots}
-use Rattle.flow_book.specs.Flows.{LiveFlow, outstanding}
+use Rattle.flow_book.specs.Flows.{LiveFlow, HaveStartedBy, outstanding}
 use Rattle.flow_book.specs.Choice.{last_start, is_before, IsEligible, IsNext, NoneEligible, HasStartedBy}
 use Rattle.flow_book.specs.Entry.{live, is_plain, IsBook, IsTurn, KeepsSums}
-use Rattle.flow_book.specs.Bucket.{HaveStartedBy}
 use Rattle.flow_book.specs.Limits.{HasBegunBy, most_in, most_with}
 use Rattle.sched_calls.specs.Sids.{AscendBy}
 use Rattle.flow_book.specs.Queue.{IsAt, IsIn, IsPassed, IsNoSooner, IsAble, HasStartedPart, still_waits}
@@ -30,11 +29,10 @@ use Rattle.flow_book.specs.Tiers.{HasTier, limits_in, reserved_in, rank_in, turn
 use Rattle.flow_book.specs.Reserved.{wanted_of, is_under, rank_at}
 use Rattle.flow_book.specs.Entry.{top_rank, turn_in}
 use Rattle.flow_book.specs.Bucket.{BucketView, most_of, reserves}
-use Rattle.flow_book.specs.Flows.{in_reserved_period}
 use Rattle.flow_book.specs.declared.limits.Limits.{Limits}
 use Rattle.sched_calls.specs.FlowSpec.{reserved_of, reserved_burst_of}
 use Rattle.flow_book.proofs.Buckets.{no-ceiling}
-use Rattle.flow_book.proofs.Periods.{begun-by}
+use Rattle.flow_book.proofs.Charges.{begun-by}
 use Rattle.flow_book.proofs.Reservation.{under-reserves}
 use Rattle.flow_book.proofs.Turns.{turn-sid, turn-in, turn-in-later}
 use Rattle.flow_book.specs.declared.tiers.Tier.{Tier}
@@ -107,7 +105,7 @@ may-is c start room f wants wanted may lawful keeps started asks is fits decides
     let bounds = bounds_of c lawful in
     let limits : wanted ≡ min (outstanding (live f)) c.quantum = omega arith in
     let most = most_in f.limits start wanted in
-    let within = limits-within c (live f) f.limits start room wanted most keeps.limits keeps.periods started
+    let within = limits-within c (live f) f.limits start room wanted most keeps.limits keeps.charges started
     (sym (ap (λ n. most_with f.limits start n wanted) (sym limits) ∙ wanted-whole f.limits start wanted)) in
     let yes' : IsTrue may → IsEligible c start room (live f) = λ t.
     let p = decides.0 t in
@@ -144,7 +142,7 @@ module _ (c : Config) (start : ℕ) (f : Flow) (tiers : List Tier) (w : Waiting)
 
   under : is_under c start (live f) ≡ reserves (reserved_in tiers w) start wanted
   under =
-      under-reserves c (live f) f.limits start keeps.limits keeps.periods started
+      under-reserves c (live f) f.limits start keeps.limits keeps.charges started
       ∙ ap (λ b. reserves b start (wanted_of c (live f))) reserved
       ∙ ap (λ n. reserves (reserved_in tiers w) start (min n c.quantum)) wants
 
@@ -156,7 +154,7 @@ module _ (c : Config) (start : ℕ) (f : Flow) (tiers : List Tier) (w : Waiting)
 
   free : (reserved_in tiers w).per_slot ≡ 0 → reserved_of f.spec ≡ 0
   free none =
-      no-ceiling c (reserved_of f.spec) (reserved_burst_of f.spec) f.limits.reserved (in_reserved_period (live f))
+      no-ceiling c (reserved_of f.spec) (reserved_burst_of f.spec) f.limits.reserved f.grants.reserved
       keeps.limits.reserved (ap (λ (b : BucketView). b.per_slot) reserved ∙ none)
 
   low : (b : Bool) → nat_lt 0 (reserved_of f.spec) ≡ true → cond b 8 (rank_of f.spec) ≤ top_rank f.spec
@@ -261,7 +259,7 @@ module _ (c : Config) (items : List Flow) (tiers : List Tier) (queue : List Wait
       let waits : 0 < w.wants = grind (arith, nat_tests) in
       let is = stands-in c items tiers queue start i w has lt here waits in
       rw (sym is.limits)
-      (begun-by c (live is.flow) is.flow.limits start is.keeps.limits is.keeps.periods is.started)
+      (begun-by c (live is.flow) is.flow.limits start is.keeps.limits is.keeps.charges is.started)
 
   module _ (room i : ℕ) (w : Waiting) (may : Bool) (has : HasStartedPart c items tiers queue start)
       (lt : i < length queue) (here : w ≡ get_or queue i w) where

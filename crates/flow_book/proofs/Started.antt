@@ -1,13 +1,13 @@
 -- The grants of all flows have started by a minislot, also after each change of a book.
 use Rattle.std.proofs.Common.{◌≡◌, refl, ℕ, ◌≤◌, ◌==◌, Bool, true, false, cond, List, [], ◌∷◌, ◌++◌, Option, None, Some}
-use Rattle.std.proofs.Common.{zero, suc, drop, arith}
+use Rattle.std.proofs.Common.{zero, suc, arith}
 use Rattle.std.specs.Prelude.{IfSome}
 use Rattle.std.specs.List.{AllByRecursion}
 use Rattle.flow_book.specs.declared.flow.Grant.{Grant}
-use Rattle.flow_book.specs.Flows.{LiveFlow, flow_of}
+use Rattle.flow_book.specs.Flows.{LiveFlow, Charge, HaveStartedBy, AreMadeBy, flow_of}
 use Rattle.flow_book.specs.Choice.{HasStartedBy}
-use Rattle.flow_book.specs.Bucket.{HaveStartedBy}
 use Rattle.flow_book.specs.Book.{changed}
+use Rattle.flow_book.proofs.Order.{all-push}
 use Rattle.flow_book.proofs.Places.{all-found}
 
 -- grants that have started by a minislot have by a later one
@@ -46,19 +46,33 @@ all-changed P sid change [] keeps all = tt
 all-changed P sid change (f ∷ flows) keeps all =
     (changed-one P (f.sid == sid) change f (keeps f all.0) all.0, all-changed P sid change flows keeps all.1)
 
--- where grants have started all but some of the first have
-pub started-drop : (now n : ℕ) (grants : List Grant) → HaveStartedBy now grants → HaveStartedBy now (drop n grants)
-started-drop now zero grants all = all
-started-drop now (suc n) [] all = tt
-started-drop now (suc n) (g ∷ grants) all = started-drop now n grants all.1
-
 -- grants with one more that has started have
 pub started-push : (now : ℕ) (grants : List Grant) (g : Grant) → HaveStartedBy now grants → g.start ≤ now
     → HaveStartedBy now (grants ++ g ∷ [])
-started-push now [] g all le = (le, tt)
-started-push now (h ∷ grants) g all le = (all.0, started-push now grants g all.1 le)
+started-push now grants g all le = all-push (λ h. h.start ≤ now) grants g all le
 
 -- grants with one more that starts now have started
 pub started-more : (now n : ℕ) (grants : List Grant) → HaveStartedBy now grants
     → HaveStartedBy now (grants ++ record { start = now; bytes = n } ∷ [])
 started-more now n grants all = started-push now grants (record { start = now; bytes = n }) all (omega arith)
+
+-- charges with one more that is made are made
+pub made-push : (now : ℕ) (charges : List Charge) (g : Charge) → AreMadeBy now charges → g.start ≤ now
+    → AreMadeBy now (charges ++ g ∷ [])
+made-push now charges g all le = all-push (λ h. h.start ≤ now) charges g all le
+
+-- all with one more behind them are all, and the one more
+all-front : {X : Type 0} (P : X → Type 0) (xs : List X) (x : X) → AllByRecursion P (xs ++ x ∷ [])
+    → AllByRecursion P xs × P x
+all-front P [] x all = (tt, all.0)
+all-front P (y ∷ xs) x all = let rest = all-front P xs x all.1 in ((all.0, rest.0), rest.1)
+
+-- grants that have all started, with one more, have started by its start at least
+pub started-front : (slot : ℕ) (grants : List Grant) (g : Grant) → HaveStartedBy slot (grants ++ g ∷ [])
+    → HaveStartedBy slot grants × (g.start ≤ slot)
+started-front slot grants g all = all-front (λ h. h.start ≤ slot) grants g all
+
+-- and so are charges
+pub made-front : (slot : ℕ) (charges : List Charge) (g : Charge) → AreMadeBy slot (charges ++ g ∷ [])
+    → AreMadeBy slot charges × (g.start ≤ slot)
+made-front slot charges g all = all-front (λ h. h.start ≤ slot) charges g all

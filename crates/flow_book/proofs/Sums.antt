@@ -10,15 +10,13 @@ use Rattle.sched_calls.specs.declared.spec.FlowSpec.{FlowSpec}
 use Rattle.sched_calls.specs.FlowSpec.{takes_requests}
 use Rattle.flow_book.specs.declared.flow.Flow.{Flow}
 use Rattle.flow_book.specs.declared.flow.Grant.{Grant}
-use Rattle.flow_book.specs.Bucket.{HaveStartedBy}
-use Rattle.flow_book.specs.Flows.{LiveFlow, bytes_of, granted}
+use Rattle.flow_book.specs.Flows.{LiveFlow, HaveStartedBy, bytes_of, granted}
 use Rattle.flow_book.specs.Reserved.{with_grant}
 use Rattle.flow_book.specs.Book.{with_spec}
 use Rattle.flow_book.specs.Choice.{last_start, last_slot, MayGrant, KeepsWith}
 use Rattle.flow_book.specs.Entry.{live, asked_more, asked_instead, IsSoundFlow, KeepsSums, IsCopy, IsBook}
 use Rattle.sched_calls.proofs.Insertion.{all-set}
 use Rattle.flow_book.proofs.Changes.{placed-sound, placed-is_sound, asked-sound, replaced-sound, granted-sound}
-use Rattle.flow_book.proofs.Windows.{one_more, bytes-one}
 use Rattle.flow_book.proofs.Places.{StandsAt, all-found}
 use Rattle.flow_book.proofs.Started.{started-push}
 
@@ -40,11 +38,13 @@ pub last-behind : (grants : List Grant) (g : Grant) → HaveStartedBy g.start gr
     → HaveStartedBy (last_slot (grants ++ g ∷ [])) (grants ++ g ∷ [])
 last-behind grants g all = rw (last-more grants g) (started-push g.start grants g all (omega arith))
 
--- and its bytes are added
+-- one grant more
+abbrev pub one_more : ℕ → ℕ → List Grant
+one_more start n = record { start = start; bytes = n } ∷ []
+
+-- its bytes are added
 pub bytes-added : (grants : List Grant) (start n : ℕ) → bytes_of (grants ++ one_more start n) ≡ bytes_of grants + n
-bytes-added grants start n =
-    sum_by-append (λ (g : Grant). g.bytes) grants (one_more start n)
-    ∙ ap (λ b. bytes_of grants + b) (bytes-one start n)
+bytes-added grants start n = omega (arith, sum_by-append (λ (g : Grant). g.bytes) grants (one_more start n))
 
 -- what holds of each and of one more holds where it is put in
 pub all-insert : {X : Type 0} (P : X → Type 0) (xs : List X) (k : ℕ) (x : X) → AllByRecursion P xs → P x
@@ -71,7 +71,7 @@ copy-sums c f g is keeps =
       granted = is.granted ∙ keeps.granted ∙ ap bytes_of (sym grants);
       turn = rw (spec, grants, sid, is.turn) keeps.turn;
       last = rw grants keeps.last;
-      periods = rw is.same keeps.periods;
+      charges = rw is.same keeps.charges;
       limits = rw (is.same, is.limits) keeps.limits;
       settled = rw (is.same, is.limits) keeps.settled;
     }
@@ -103,11 +103,10 @@ asked-book c sid bytes heard items i f are is takes =
       granted = keeps.granted;
       turn = keeps.turn;
       last = keeps.last;
-      periods = record {
-        sustained = keeps.periods.sustained;
-        peak = keeps.periods.peak;
-        reserved = keeps.periods.reserved;
-        among = keeps.periods.among;
+      charges = record {
+        sustained = keeps.charges.sustained;
+        peak = keeps.charges.peak;
+        reserved = keeps.charges.reserved;
       };
       limits = record {
         sustained = keeps.limits.sustained;
@@ -133,11 +132,10 @@ replaced-book c sid bytes heard items i f are is takes =
       granted = keeps.granted;
       turn = keeps.turn;
       last = keeps.last;
-      periods = record {
-        sustained = keeps.periods.sustained;
-        peak = keeps.periods.peak;
-        reserved = keeps.periods.reserved;
-        among = keeps.periods.among;
+      charges = record {
+        sustained = keeps.charges.sustained;
+        peak = keeps.charges.peak;
+        reserved = keeps.charges.reserved;
       };
       limits = record {
         sustained = keeps.limits.sustained;
@@ -173,6 +171,5 @@ pub granted-book : (c : Config) (sid start bytes room : ℕ) (items : List Flow)
     → (KeepsSums c f → KeepsWith c (live f) start bytes → KeepsSums c e) → IsBook c (set items i e)
 granted-book c sid start bytes room items i e f are is more may sums =
     let sound = placed-is_sound c sid items i f are.sound is in
-    let keeps = placed-sums c sid items i f are is in
     placed-book c sid items i e f are is (ap (λ (g : LiveFlow). g.sid) more)
-    (rw more (granted-sound c start bytes room (live f) sound keeps.periods may)) (sums keeps may.taken.ceiling)
+    (rw more (granted-sound c start bytes room (live f) sound may)) (sums (placed-sums c sid items i f are is) may.taken.ceiling)

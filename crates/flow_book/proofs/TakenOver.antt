@@ -9,11 +9,10 @@ use Rattle.std.proofs.lemmas.List.Elements.{All-from_recursion, length_all_zip}
 use Rattle.std.proofs.lemmas.Option.{slice_get_within, slice_get-get_or, slice_get_read, slice_get-map}
 use Rattle.minislots.specs.declared.config.Config.{Config}
 use Rattle.flow_book.specs.declared.flow.Flow.{Flow}
-use Rattle.flow_book.specs.declared.flow.Grant.{Grant}
 use Rattle.flow_book.specs.declared.granted.GrantList.{GrantList}
 use Rattle.flow_book.specs.declared.waiting.Waiting.{Waiting}
 use Rattle.flow_book.specs.Flows.{LiveFlow}
-use Rattle.flow_book.specs.FlowList.{grants_at, reserved_at}
+use Rattle.flow_book.specs.FlowList.{AreGrantsAt}
 use Rattle.flow_book.specs.Entry.{live, IsCopy, IsSoundFlow, KeepsSums}
 use Rattle.sched_calls.specs.Sids.{AscendBy}
 use Rattle.flow_book.specs.Queue.{IsAt, IsIn}
@@ -55,6 +54,18 @@ module _ {X : Type 0} where
       → AllByRecursion P xs
   all-each P [] each = tt
   all-each P (x ∷ xs) each = (each 0 x refl, all-each P xs (λ k. each (suc k)))
+
+-- the grants of the flow at a place are its own
+grants-theirs : (place : ℕ) (flows : List LiveFlow) (grants : GrantList) (f : LiveFlow)
+    → slice_get flows place ≡ Some f → AreGrantsAt place flows grants
+    → (grants.items ≡ f.grants) × (grants.sustained ≡ f.sustained) × (grants.peak ≡ f.peak)
+    × (grants.reserved ≡ f.reserved)
+grants-theirs place flows grants f at are = (
+  are.0 ∙ ap (λ o. option_map_or (λ (h : LiveFlow). h.grants) o []) at,
+  are.1 ∙ ap (λ o. option_map_or (λ (h : LiveFlow). h.sustained) o []) at,
+  are.2 ∙ ap (λ o. option_map_or (λ (h : LiveFlow). h.peak) o []) at,
+  are.3 ∙ ap (λ o. option_map_or (λ (h : LiveFlow). h.reserved) o []) at,
+)
 
 -- at one place the flows are the same but for their grants
 pub zip-at : (old items : List Flow) (place : ℕ) (f g : Flow) → AllZip IsSameFlow (map live old) (map live items)
@@ -169,30 +180,21 @@ module _ (c : Config) (old items : List Flow) (tiers : List Tier) (queue : List 
           )
 
       -- with the grants after the MAP, and what the queue has of it, it is a copy of that after it
-      pub copied : (grants reserved : GrantList) → grants.items ≡ grants_at w.place (map live items)
-          → reserved.items ≡ reserved_at w.place (map live items) → IsCopy is-here.0 (record f {
-            turn = w.turn;
-            granted = f.asked - w.wants;
-            limits = limits_in tiers w;
-            grants = grants;
-            reserved = reserved;
-          })
-      copied grants reserved are are' =
+      pub copied : (grants : GrantList) → AreGrantsAt w.place (map live items) grants → IsCopy is-here.0 (record f {
+        turn = w.turn;
+        granted = f.asked - w.wants;
+        limits = limits_in tiers w;
+        grants = grants;
+      })
+      copied grants are =
           let g = is-here.0 in
           let here = is-here.1 in
-          let theirs : grants_at w.place (map live items) ≡ g.grants.items =
-          ap (λ o. option_map_or (λ (h : LiveFlow). h.grants) o []) (slice_get-map live items w.place
-          ∙ ap (option_map live) here.at) in
-          let theirs' : reserved_at w.place (map live items) ≡ g.reserved.items =
-          ap (λ o. option_map_or (λ (h : LiveFlow). h.reserved) o []) (slice_get-map live items w.place
-          ∙ ap (option_map live) here.at) in
-          let sound = all-at (IsSoundFlow c) (map live items) w.place (live g) can.book.sound.each
-          (slice_get-map live items w.place ∙ ap (option_map live) here.at) in
+          let there = slice_get-map live items w.place ∙ ap (option_map live) here.at in
+          let theirs = grants-theirs w.place (map live items) grants (live g) there are in
+          let sound = all-at (IsSoundFlow c) (map live items) w.place (live g) can.book.sound.each there in
           let keeps = all-at (KeepsSums c) items w.place g can.book.sums here.at in
           record {
-            same = ap (λ (gs : List Grant). record (live f) { grants = gs; reserved = reserved.items }) (are ∙ theirs)
-                ∙ ap (λ (gs : List Grant). record (live f) { grants = g.grants.items; reserved = gs }) (are' ∙ theirs')
-                ∙ here.same;
+            same = rw (theirs.0, theirs.1, theirs.2, theirs.3) here.same;
             granted = omega (
               arith,
               wants-at items w g here.is here.at,

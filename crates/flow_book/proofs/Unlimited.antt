@@ -1,10 +1,10 @@
 -- Flows without a ceiling.
-use Rattle.std.proofs.Common.{◌≡◌, ℕ, ◌<◌, ◌≤◌, true, [], ◌∷◌, ◌++◌, arith}
+use Rattle.std.proofs.Common.{◌≡◌, ℕ, ◌<◌, ◌≤◌, true, arith}
 use Rattle.std.specs.Prelude.{min}
 use Rattle.minislots.specs.declared.config.Config.{Config}
 use Rattle.minislots.specs.Units.{slots_for}
 use Rattle.sched_calls.specs.FlowSpec.{takes_requests, rate_of, burst_of, peak_of, reserved_of}
-use Rattle.flow_book.specs.Flows.{LiveFlow, outstanding, in_period}
+use Rattle.flow_book.specs.Flows.{LiveFlow, outstanding, and_grant}
 use Rattle.flow_book.specs.Ceiling.{KeepsCeiling}
 use Rattle.flow_book.specs.Choice.{KeepsWith, MayTake, MayGrant, IsEligible}
 use Rattle.flow_book.proofs.Reservation.{under-reserved}
@@ -12,7 +12,7 @@ use Rattle.flow_book.proofs.Reservation.{under-reserved}
 -- a flow without a peak rate or a reservation keeps its ceilings where it keeps the other
 pub KeepsWith-peakless : (c : Config) (f : LiveFlow) (start bytes : ℕ) → peak_of f.spec ≡ 0
     → reserved_of f.spec ≡ 0
-    → KeepsCeiling c (rate_of f.spec) (burst_of f.spec) (in_period f ++ record { start = start; bytes = bytes } ∷ [])
+    → KeepsCeiling c (rate_of f.spec) (burst_of f.spec) (and_grant f.sustained start bytes)
     → KeepsWith c f start bytes
 KeepsWith-peakless c f start bytes peakless unreserved kept = record {
   sustained = kept;

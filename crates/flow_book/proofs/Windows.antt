@@ -1,4 +1,4 @@
--- The windows of a flow's grants followed by one more.
+-- The windows of a flow's charges followed by one more.
 use Rattle.std.proofs.Common.{◌≡◌, refl, ap, ◌∙◌, ℕ, ◌+◌, ◌-◌, ◌*◌, ◌<◌, ◌≤◌, List, [], ◌∷◌, ◌++◌, length}
 use Rattle.std.proofs.Common.{take, drop, inl, inr, arith}
 use Rattle.std.proofs.Math.Seq.{get_or-append_seam}
@@ -6,117 +6,116 @@ use Rattle.std.proofs.lemmas.Bool.{cases_eq}
 use Rattle.std.proofs.lemmas.List.{get_or_append_left, take-append-le, drop-append-le, take_all, length_push}
 use Rattle.std.proofs.lemmas.List.Sums.{sum_by-append}
 use Rattle.minislots.specs.declared.config.Config.{Config}
-use Rattle.flow_book.specs.declared.flow.Grant.{Grant}
-use Rattle.flow_book.specs.Flows.{bytes_of}
+use Rattle.flow_book.specs.Flows.{Charge, tokens_of}
 use Rattle.flow_book.specs.Ceiling.{window, start_of, KeepsCeiling}
 
--- the window from the k-th grant on leaves so many bytes to a grant that starts here
-abbrev pub Leaves : Config → ℕ → ℕ → List Grant → ℕ → ℕ → ℕ → Type 0
-Leaves c rate burst grants start n k =
-    1280000 * (bytes_of (drop k grants) + n) + start_of grants k * c.ticks * rate
+-- the window from the k-th charge on leaves so many tokens to a charge that is made here
+abbrev pub Leaves : Config → ℕ → ℕ → List Charge → ℕ → ℕ → ℕ → Type 0
+Leaves c rate burst charges start n k =
+    tokens_of (drop k charges) + n + start_of charges k * c.ticks * rate
     ≤ start * c.ticks * rate + 1280000 * burst
 
--- one grant more
-abbrev pub one_more : ℕ → ℕ → List Grant
-one_more start n = record { start = start; bytes = n } ∷ []
+-- one charge more
+abbrev pub one_charge : ℕ → ℕ → List Charge
+one_charge start n = record { start = start; tokens = n } ∷ []
 
--- the bytes of one grant
-pub bytes-one : (start n : ℕ) → bytes_of (one_more start n) ≡ n
-bytes-one start n = omega arith
+-- the tokens of one charge
+pub tokens-one : (start n : ℕ) → tokens_of (one_charge start n) ≡ n
+tokens-one start n = omega arith
 
-window-inside : (grants more : List Grant) (i j : ℕ) → j < length grants → window (grants ++ more) i j
-    ≡ window grants i j
-window-inside grants more i j lt = ap (drop i) (take-append-le (j + 1) grants more (omega arith))
+window-inside : (charges more : List Charge) (i j : ℕ) → j < length charges → window (charges ++ more) i j
+    ≡ window charges i j
+window-inside charges more i j lt = ap (drop i) (take-append-le (j + 1) charges more (omega arith))
 
-window-last : (grants : List Grant) (start n i : ℕ) → i ≤ length grants
-    → bytes_of (window (grants ++ one_more start n) i (length grants)) ≡ bytes_of (drop i grants) + n
-window-last grants start n i le =
-    let all : take (length grants + 1) (grants ++ one_more start n) ≡ grants ++ one_more start n =
-    take_all _ _ (omega (arith, length_push grants (record { start = start; bytes = n }))) in
-    ap (λ gs. bytes_of (drop i gs)) all ∙ ap bytes_of (drop-append-le i grants (one_more start n) le)
-    ∙ sum_by-append (λ (g : Grant). g.bytes) (drop i grants) (one_more start n)
-    ∙ ap (λ b. bytes_of (drop i grants) + b) (bytes-one start n)
+window-last : (charges : List Charge) (start n i : ℕ) → i ≤ length charges
+    → tokens_of (window (charges ++ one_charge start n) i (length charges)) ≡ tokens_of (drop i charges) + n
+window-last charges start n i le =
+    let all : take (length charges + 1) (charges ++ one_charge start n) ≡ charges ++ one_charge start n =
+    take_all _ _ (omega (arith, length_push charges (record { start = start; tokens = n }))) in
+    ap (λ gs. tokens_of (drop i gs)) all ∙ ap tokens_of (drop-append-le i charges (one_charge start n) le)
+    ∙ sum_by-append (λ (g : Charge). g.tokens) (drop i charges) (one_charge start n)
+    ∙ ap (λ b. tokens_of (drop i charges) + b) (tokens-one start n)
 
--- a grant starts where it did
-pub start-inside : (grants more : List Grant) (i : ℕ) → i < length grants
-    → start_of (grants ++ more) i ≡ start_of grants i
-start-inside grants more i lt = ap (λ (g : Grant). g.start) (get_or_append_left grants more _ i lt)
+-- a charge is made where it was
+pub start-inside : (charges more : List Charge) (i : ℕ) → i < length charges
+    → start_of (charges ++ more) i ≡ start_of charges i
+start-inside charges more i lt = ap (λ (g : Charge). g.start) (get_or_append_left charges more _ i lt)
 
--- and the one more where it starts
-pub start-last : (grants : List Grant) (start n : ℕ) → start_of (grants ++ one_more start n) (length grants) ≡ start
-start-last grants start n =
-    ap (λ (g : Grant). g.start) (get_or-append_seam grants (record { start = start; bytes = n }) [] _)
+-- and the one more where it is made
+pub start-last : (charges : List Charge) (start n : ℕ) → start_of (charges ++ one_charge start n) (length charges) ≡ start
+start-last charges start n =
+    ap (λ (g : Charge). g.start) (get_or-append_seam charges (record { start = start; tokens = n }) [] _)
 
--- which is where the last of them starts
-pub start-end : (grants : List Grant) (start n : ℕ)
-    → start_of (grants ++ one_more start n) (length (grants ++ one_more start n) - 1) ≡ start
-start-end grants start n =
-    let last : length (grants ++ one_more start n) - 1 ≡ length grants =
-    omega (arith, length_push grants (record { start = start; bytes = n })) in
-    rw last (start-last grants start n)
+-- which is where the last of them is made
+pub start-end : (charges : List Charge) (start n : ℕ)
+    → start_of (charges ++ one_charge start n) (length (charges ++ one_charge start n) - 1) ≡ start
+start-end charges start n =
+    let last : length (charges ++ one_charge start n) - 1 ≡ length charges =
+    omega (arith, length_push charges (record { start = start; tokens = n })) in
+    rw last (start-last charges start n)
 
--- after the last grant there are no bytes
-pub drop-end : (grants : List Grant) → bytes_of (drop (length grants) grants) ≡ 0
+-- after the last charge there are no tokens
+pub drop-end : (charges : List Charge) → tokens_of (drop (length charges) charges) ≡ 0
 drop-end [] = refl
-drop-end (g ∷ grants) = drop-end grants
+drop-end (g ∷ charges) = drop-end charges
 
-module _ (c : Config) (rate burst start n : ℕ) (grants : List Grant) where
-  last-window : (i : ℕ) → i ≤ length grants → n ≤ burst → (i < length grants → Leaves c rate burst grants start n i)
-      → 1280000 * bytes_of (window (grants ++ one_more start n) i (length grants))
-      + start_of (grants ++ one_more start n) i * c.ticks * rate
-      ≤ start_of (grants ++ one_more start n) (length grants) * c.ticks * rate + 1280000 * burst
-  last-window i le small leaves = elim (cases_eq i (length grants)) [
+module _ (c : Config) (rate burst start n : ℕ) (charges : List Charge) where
+  last-window : (i : ℕ) → i ≤ length charges → n ≤ 1280000 * burst → (i < length charges → Leaves c rate burst charges start n i)
+      → tokens_of (window (charges ++ one_charge start n) i (length charges))
+      + start_of (charges ++ one_charge start n) i * c.ticks * rate
+      ≤ start_of (charges ++ one_charge start n) (length charges) * c.ticks * rate + 1280000 * burst
+  last-window i le small leaves = elim (cases_eq i (length charges)) [
     | inl e ↦ rw (
       e,
-      window-last grants start n (length grants) (omega arith),
-      start-last grants start n,
-      drop-end grants,
+      window-last charges start n (length charges) (omega arith),
+      start-last charges start n,
+      drop-end charges,
     ) (omega arith)
     | inr differ ↦
-        (let lt : i < length grants = omega arith in rw (
-          window-last grants start n i le,
-          start-last grants start n,
-          start-inside grants (one_more start n) i lt,
+        (let lt : i < length charges = omega arith in rw (
+          window-last charges start n i le,
+          start-last charges start n,
+          start-inside charges (one_charge start n) i lt,
         ) (leaves lt))
   ]
 
-  -- a grant that each window leaves its bytes to keeps the ceiling
-  pub keeps-more : KeepsCeiling c rate burst grants → (0 < rate → n ≤ burst)
-      → (0 < rate → (k : ℕ) → k < length grants → Leaves c rate burst grants start n k)
-      → KeepsCeiling c rate burst (grants ++ one_more start n)
-  keeps-more kept small leaves positive i j le lt = elim (cases_eq j (length grants)) [
+  -- a charge that each window leaves its tokens to keeps the ceiling
+  pub keeps-more : KeepsCeiling c rate burst charges → (0 < rate → n ≤ 1280000 * burst)
+      → (0 < rate → (k : ℕ) → k < length charges → Leaves c rate burst charges start n k)
+      → KeepsCeiling c rate burst (charges ++ one_charge start n)
+  keeps-more kept small leaves positive i j le lt = elim (cases_eq j (length charges)) [
     | inl e ↦ rw e (last-window i (omega arith) (small positive) (leaves positive i))
     | inr differ ↦ (
-        let within : j < length grants = omega (arith, length_push grants (record { start = start; bytes = n })) in
-        let first : i < length grants = omega arith in
+        let within : j < length charges = omega (arith, length_push charges (record { start = start; tokens = n })) in
+        let first : i < length charges = omega arith in
         rw (
-          window-inside grants (one_more start n) i j within,
-          start-inside grants (one_more start n) i first,
-          start-inside grants (one_more start n) j within,
+          window-inside charges (one_charge start n) i j within,
+          start-inside charges (one_charge start n) i first,
+          start-inside charges (one_charge start n) j within,
         ) (kept positive i j le within))
   ]
 
-  -- where the ceiling is kept each window left the bytes
-  pub more-leaves : KeepsCeiling c rate burst (grants ++ one_more start n) → 0 < rate → (k : ℕ) → k < length grants
-      → Leaves c rate burst grants start n k
+  -- where the ceiling is kept each window left the tokens
+  pub more-leaves : KeepsCeiling c rate burst (charges ++ one_charge start n) → 0 < rate → (k : ℕ) → k < length charges
+      → Leaves c rate burst charges start n k
   more-leaves kept positive k lt =
-      let last : length grants < length (grants ++ one_more start n) =
-      omega (arith, length_push grants (record { start = start; bytes = n })) in
-      let whole = kept positive k (length grants) (omega arith) last in
+      let last : length charges < length (charges ++ one_charge start n) =
+      omega (arith, length_push charges (record { start = start; tokens = n })) in
+      let whole = kept positive k (length charges) (omega arith) last in
       rw (
-        window-last grants start n k (omega arith),
-        start-last grants start n,
-        start-inside grants
-            (one_more start n) k lt,
+        window-last charges start n k (omega arith),
+        start-last charges start n,
+        start-inside charges
+            (one_charge start n) k lt,
       ) at whole
 
-  -- and the grant is no more than the burst
-  pub more-small : KeepsCeiling c rate burst (grants ++ one_more start n) → 0 < rate → n ≤ burst
+  -- and the charge is no more than the burst
+  pub more-small : KeepsCeiling c rate burst (charges ++ one_charge start n) → 0 < rate → n ≤ 1280000 * burst
   more-small kept positive =
-      let last : length grants < length (grants ++ one_more start n) =
-      omega (arith, length_push grants (record { start = start; bytes = n })) in
-      let whole = kept positive (length grants) (length grants) (omega arith) last in
+      let last : length charges < length (charges ++ one_charge start n) =
+      omega (arith, length_push charges (record { start = start; tokens = n })) in
+      let whole = kept positive (length charges) (length charges) (omega arith) last in
       let alone =
-      rw (window-last grants start n (length grants) (omega arith), start-last grants start n, drop-end grants) at
+      rw (window-last charges start n (length charges) (omega arith), start-last charges start n, drop-end charges) at
       whole in
       omega arith

@@ -1,5 +1,5 @@
 -- What contracts see of a book: the live flows, and beside them the room for their grants.
-use Rattle.std.specs.Prelude.{ℕ, ◌+◌, ◌≤◌, Bool, ◌&&◌, ◌==◌, List, [], length, map, find, option_map, unwrap_or, IsSome}
+use Rattle.std.specs.Prelude.{ℕ, ◌+◌, ◌≤◌, Bool, ◌&&◌, ◌==◌, List, [], map, find, option_map, unwrap_or, IsSome}
 use Rattle.std.specs.Prelude.{if◌then◌else◌}
 use Rattle.minislots.specs.declared.config.Config.{Config}
 use Rattle.sched_calls.specs.declared.spec.FlowSpec.{FlowSpec}
@@ -48,10 +48,9 @@ new_flow sid spec =
       asked = 0;
       batches = no_batches;
       grants = [];
-      earlier = 0;
-      peak_earlier = 0;
+      sustained = [];
+      peak = [];
       reserved = [];
-      reserved_earlier = 0;
     }
 
 -- a flow that asked for so many bytes more, in a request that was heard at this minislot
@@ -78,14 +77,14 @@ has_peak_of spec other = peak_of spec == peak_of other
 abbrev pub has_reserve_of : FlowSpec → FlowSpec → Bool
 has_reserve_of spec other = reserved_of spec == reserved_of other && reserved_burst_of spec == reserved_burst_of other
 
--- a flow with these parameters from now on: another ceiling begins a period of it, another peak rate one of that, and
--- another reservation one of that
+-- a flow with these parameters from now on: another ceiling begins a period of it, in which nothing is charged yet,
+-- another peak rate one of that, and another reservation one of that
 abbrev pub with_spec : FlowSpec → LiveFlow → LiveFlow
 with_spec spec f = record f {
   spec = spec;
-  earlier = if has_ceiling_of f.spec spec then f.earlier else length f.grants;
-  peak_earlier = if has_peak_of f.spec spec then f.peak_earlier else length f.grants;
-  reserved_earlier = if has_reserve_of f.spec spec then f.reserved_earlier else length f.reserved;
+  sustained = if has_ceiling_of f.spec spec then f.sustained else [];
+  peak = if has_peak_of f.spec spec then f.peak else [];
+  reserved = if has_reserve_of f.spec spec then f.reserved else [];
 }
 
 -- the room of the flow with this SID

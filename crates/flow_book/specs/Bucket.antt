@@ -1,14 +1,12 @@
--- The token bucket of a flow: what it has at a minislot, and the grants that it stands for.
-use Rattle.std.specs.Prelude.{◌≡◌, ℕ, ◌+◌, ◌-◌, ◌*◌, ◌/◌, ◌<◌, ◌≤◌, ◌==◌, ◌++◌, min, List, [], ◌∷◌, length, drop}
+-- The token bucket of a flow: what it has at a minislot, and the charges that it stands for.
+use Rattle.std.specs.Prelude.{◌≡◌, ℕ, ◌+◌, ◌-◌, ◌*◌, ◌/◌, ◌<◌, ◌≤◌, ◌==◌, min, List, length, drop}
 use Rattle.std.specs.Prelude.{Bool, IsTrue, not, ◌&&◌, ◌↔◌, if◌then◌else◌}
-use Rattle.std.specs.List.{AllByRecursion}
 use Rattle.minislots.specs.declared.config.Config.{Config}
-use Rattle.flow_book.specs.declared.flow.Grant.{Grant}
-use Rattle.flow_book.specs.Flows.{bytes_of}
+use Rattle.flow_book.specs.Flows.{Charge, tokens_of, and_grant, AreMadeBy}
 use Rattle.flow_book.specs.Ceiling.{start_of, KeepsCeiling}
 
--- A bucket, in 1/1280000 bytes: what the rate brings in a minislot, what the burst allows, and what there was at the
--- start of the last grant. Where there is no ceiling the first two are 0.
+-- A bucket, in tokens of 1/1280000 bytes: what the rate brings in a minislot, what the burst allows, and what there was
+-- at the start of the last charge. Where there is no ceiling the first two are 0.
 pub record BucketView : Type 0 where
   pub per_slot : ℕ
   pub full : ℕ
@@ -19,62 +17,58 @@ pub record BucketView : Type 0 where
 abbrev pub level_of : BucketView → ℕ → ℕ
 level_of b slot = min b.full (b.level + (slot - b.since) * b.per_slot)
 
--- each of the grants starts at or before this minislot
-abbrev pub HaveStartedBy : ℕ → List Grant → Type 0
-HaveStartedBy slot grants = AllByRecursion (λ g. g.start ≤ slot) grants
-
--- Each window of grants that ends at the minislot leaves this much, in 1/1280000 bytes, of the burst and of what the
--- rate allows from the window's first start on. The empty window leaves the burst.
-pub record LeaveAtLeast (c : Config) (rate burst : ℕ) (grants : List Grant) (slot amount : ℕ) : Type 0 where
+-- Each window of charges that ends at the minislot leaves this much of the burst and of what the rate brings from the
+-- window's first start on. The empty window leaves the burst.
+pub record LeaveAtLeast (c : Config) (rate burst : ℕ) (charges : List Charge) (slot amount : ℕ) : Type 0 where
   pub empty : amount ≤ 1280000 * burst
-  pub each : (i : ℕ) → i < length grants → 1280000 * bytes_of (drop i grants) + amount
-      + start_of grants i * c.ticks * rate ≤ slot * c.ticks * rate + 1280000 * burst
+  pub each : (i : ℕ) → i < length charges → tokens_of (drop i charges) + amount
+      + start_of charges i * c.ticks * rate ≤ slot * c.ticks * rate + 1280000 * burst
 
 -- the most that each window leaves, which is the least that one of them leaves
-pub record IsLevel (c : Config) (rate burst : ℕ) (grants : List Grant) (slot level : ℕ) : Type 0 where
-  pub left : LeaveAtLeast c rate burst grants slot level
-  pub greatest : (more : ℕ) → LeaveAtLeast c rate burst grants slot more → more ≤ level
+pub record IsLevel (c : Config) (rate burst : ℕ) (charges : List Charge) (slot level : ℕ) : Type 0 where
+  pub left : LeaveAtLeast c rate burst charges slot level
+  pub greatest : (more : ℕ) → LeaveAtLeast c rate burst charges slot more → more ≤ level
 
--- The bucket of a rate and a burst stands for some grants: they keep the ceiling, and at each minislot from the last
+-- The bucket of a rate and a burst stands for some charges: they keep the ceiling, and at each minislot from the last
 -- one on the bucket has what they leave.
-pub record StandsFor (c : Config) (rate burst : ℕ) (b : BucketView) (grants : List Grant) : Type 0 where
+pub record StandsFor (c : Config) (rate burst : ℕ) (b : BucketView) (charges : List Charge) : Type 0 where
   pub ticks : 0 < c.ticks
   pub per_slot : b.per_slot ≡ c.ticks * rate
   pub full : b.full ≡ (if rate == 0 then 0 else 1280000 * burst)
-  pub kept : KeepsCeiling c rate burst grants
-  pub since : (slot : ℕ) → HaveStartedBy slot grants → b.since ≤ slot
-  pub level : 0 < rate → (slot : ℕ) → HaveStartedBy slot grants → IsLevel c rate burst grants slot (level_of b slot)
+  pub kept : KeepsCeiling c rate burst charges
+  pub since : (slot : ℕ) → AreMadeBy slot charges → b.since ≤ slot
+  pub level : 0 < rate → (slot : ℕ) → AreMadeBy slot charges → IsLevel c rate burst charges slot (level_of b slot)
 
--- a level of grants that the bucket stands for: the least that their windows leave, and 0 where there is no ceiling
+-- a level of charges that the bucket stands for: the least that their windows leave, and 0 where there is no ceiling
 abbrev pub AnswersLevel : BucketView → ℕ → ℕ → Type 0
-AnswersLevel b slot level = (c : Config) (rate burst : ℕ) (grants : List Grant)
-    → StandsFor c rate burst b grants → HaveStartedBy slot grants
-    → (0 < rate → IsLevel c rate burst grants slot level) × (rate ≡ 0 → level ≡ 0)
+AnswersLevel b slot level = (c : Config) (rate burst : ℕ) (charges : List Charge)
+    → StandsFor c rate burst b charges → AreMadeBy slot charges
+    → (0 < rate → IsLevel c rate burst charges slot level) × (rate ≡ 0 → level ≡ 0)
 
--- the answer is true exactly where grants that the bucket stands for keep the ceiling with this one more
+-- the answer is true exactly where charges that the bucket stands for keep the ceiling with that of this grant
 abbrev pub AnswersCeiling : BucketView → ℕ → ℕ → Bool → Type 0
-AnswersCeiling b slot bytes taken = (c : Config) (rate burst : ℕ) (grants : List Grant)
-    → StandsFor c rate burst b grants → HaveStartedBy slot grants
-    → IsTrue taken ↔ KeepsCeiling c rate burst (grants ++ record { start = slot; bytes = bytes } ∷ [])
+AnswersCeiling b slot bytes taken = (c : Config) (rate burst : ℕ) (charges : List Charge)
+    → StandsFor c rate burst b charges → AreMadeBy slot charges
+    → IsTrue taken ↔ KeepsCeiling c rate burst (and_grant charges slot bytes)
 
--- where the one bucket stands for some grants that have started, the other stands for them and this one more
+-- where the one bucket stands for some charges that are made, the other stands for them with that of this grant
 abbrev pub HasOneMore : BucketView → BucketView → ℕ → ℕ → Type 0
-HasOneMore old new slot bytes = (c : Config) (rate burst : ℕ) (grants : List Grant)
-    → StandsFor c rate burst old grants → HaveStartedBy slot grants
-    → StandsFor c rate burst new (grants ++ record { start = slot; bytes = bytes } ∷ [])
+HasOneMore old new slot bytes = (c : Config) (rate burst : ℕ) (charges : List Charge)
+    → StandsFor c rate burst old charges → AreMadeBy slot charges
+    → StandsFor c rate burst new (and_grant charges slot bytes)
 
--- The grants of a bucket decide what it keeps: at most what the burst allows, and where there is a ceiling the least
--- minislot by which they have started, which is where the last of them starts
-pub record IsSettled (b : BucketView) (grants : List Grant) : Type 0 where
+-- The charges of a bucket decide what it keeps: at most what the burst allows, and where there is a ceiling the least
+-- minislot by which they are made, which is where the last of them is
+pub record IsSettled (b : BucketView) (charges : List Charge) : Type 0 where
   pub level : b.level ≤ b.full
-  pub started : 0 < b.per_slot → HaveStartedBy b.since grants
-  pub last : 0 < b.per_slot → b.since ≡ start_of grants (length grants - 1)
+  pub started : 0 < b.per_slot → AreMadeBy b.since charges
+  pub last : 0 < b.per_slot → b.since ≡ start_of charges (length charges - 1)
   pub first : b.per_slot ≡ 0 → b.since ≡ 0
 
--- where the one bucket is settled by some grants that have started, the other is by them and this one more
+-- where the one bucket is settled by some charges that are made, the other is by them with that of this grant
 abbrev pub StaysSettled : BucketView → BucketView → ℕ → ℕ → Type 0
-StaysSettled old new slot bytes = (grants : List Grant) → IsSettled old grants → HaveStartedBy slot grants
-    → IsSettled new (grants ++ record { start = slot; bytes = bytes } ∷ [])
+StaysSettled old new slot bytes = (charges : List Charge) → IsSettled old charges → AreMadeBy slot charges
+    → IsSettled new (and_grant charges slot bytes)
 
 -- the most bytes, up to a limit, that the bucket has at a minislot: all where it holds nothing back
 abbrev pub most_of : BucketView → ℕ → ℕ → ℕ

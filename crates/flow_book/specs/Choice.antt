@@ -1,13 +1,13 @@
 -- Which flow a data grant goes to, and how many bytes it has.
 use Rattle.std.specs.Prelude.{◌≡◌, ℕ, ◌<◌, ◌≤◌, min, Bool, true, false, ◌&&◌, ◌||◌, nat_lt, ◌==◌, ◌⊎◌, List, [], ◌∷◌}
-use Rattle.std.specs.Prelude.{◌++◌, Contains, Option, None, Some, IsSomeAnd, unwrap_or}
+use Rattle.std.specs.Prelude.{Contains, Option, None, Some, IsSomeAnd, unwrap_or}
 use Rattle.std.specs.List.{AllByRecursion}
 use Rattle.minislots.specs.declared.config.Config.{Config}
 use Rattle.minislots.specs.Units.{slots_for}
 use Rattle.sched_calls.specs.FlowSpec.{takes_requests, rate_of, burst_of, peak_of, reserved_of, reserved_burst_of}
 use Rattle.sched_calls.specs.declared.spec.TheConstants.{PEAK_BURST}
 use Rattle.flow_book.specs.declared.flow.Grant.{Grant}
-use Rattle.flow_book.specs.Flows.{LiveFlow, outstanding, in_period, in_peak_period, in_reserved_period, flow_of}
+use Rattle.flow_book.specs.Flows.{LiveFlow, outstanding, and_grant, HaveStartedBy, flow_of}
 use Rattle.flow_book.specs.Ceiling.{KeepsCeiling}
 use Rattle.flow_book.specs.Reserved.{is_under, rank_at}
 
@@ -15,11 +15,11 @@ use Rattle.flow_book.specs.Reserved.{is_under, rank_at}
 -- keeps that too
 pub record KeepsWith (c : Config) (f : LiveFlow) (start bytes : ℕ) : Type 0 where
   pub sustained : KeepsCeiling c (rate_of f.spec) (burst_of f.spec)
-      (in_period f ++ record { start = start; bytes = bytes } ∷ [])
+      (and_grant f.sustained start bytes)
   pub peak : KeepsCeiling c (peak_of f.spec) PEAK_BURST
-      (in_peak_period f ++ record { start = start; bytes = bytes } ∷ [])
+      (and_grant f.peak start bytes)
   pub reserved : is_under c start f ≡ true → KeepsCeiling c (reserved_of f.spec) (reserved_burst_of f.spec)
-      (in_reserved_period f ++ record { start = start; bytes = bytes } ∷ [])
+      (and_grant f.reserved start bytes)
 
 -- a grant of so many bytes at this minislot keeps the flow's ceilings, and fits the room
 pub record MayTake (c : Config) (f : LiveFlow) (start room bytes : ℕ) : Type 0 where
@@ -102,4 +102,4 @@ IsNextSid c start room flows (Some sid) = IsSomeAnd (flow_of sid flows) (IsNext 
 
 -- each grant of the flow starts at or before this minislot
 abbrev pub HasStartedBy : ℕ → LiveFlow → Type 0
-HasStartedBy start f = AllByRecursion (λ g. g.start ≤ start) f.grants
+HasStartedBy start f = HaveStartedBy start f.grants

@@ -10,11 +10,10 @@ use Rattle.flow_book.specs.declared.flow.Room as the_room
 use Rattle.sched_calls.specs.FlowSpec.{rank_of, rate_of, burst_of, peak_of, reserved_of, reserved_burst_of, takes_requests}
 use Rattle.sched_calls.specs.declared.spec.TheConstants.{PEAK_BURST}
 use Rattle.flow_book.specs.Batches.{with_request}
-use Rattle.flow_book.specs.Flows.{LiveFlow, bytes_of, granted, in_period, in_peak_period, in_reserved_period}
+use Rattle.flow_book.specs.Flows.{LiveFlow, bytes_of, granted, HaveStartedBy}
 use Rattle.flow_book.specs.Ceiling.{KeepsCeiling}
 use Rattle.flow_book.specs.Choice.{last_start, last_slot}
-use Rattle.flow_book.specs.Bucket.{HaveStartedBy}
-use Rattle.flow_book.specs.Limits.{HasPeriods, AreLimitsOf, AreSettled}
+use Rattle.flow_book.specs.Limits.{ChargesAtGrants, AreLimitsOf, AreSettled}
 use Rattle.flow_book.specs.Book.{Room, Ascend}
 
 -- the live flow that the fields stand for
@@ -25,10 +24,9 @@ live f = record {
   asked = f.asked;
   batches = f.batches;
   grants = f.grants.items;
-  earlier = f.period.earlier;
-  peak_earlier = f.peak_period.earlier;
-  reserved = f.reserved.items;
-  reserved_earlier = f.reserved_period.earlier;
+  sustained = f.grants.sustained;
+  peak = f.grants.peak;
+  reserved = f.grants.reserved;
 }
 
 -- whether it has neither a peak rate nor a reservation
@@ -75,14 +73,14 @@ abbrev pub turn_in : ℕ → ℕ → ℕ
 turn_in rank turn = (255 - rank) * 2 ^ 81 + turn % 2 ^ 81
 
 -- what a flow keeps beside its grants is theirs: their bytes, its turn after the last one, and the bucket of each of
--- its ceilings and of its reservation that stands for those of the present period of that and is settled by them; none
--- of them starts behind the last one; and only a flow that takes requests has asked for bytes
+-- its ceilings and of its reservation that stands for what is charged to that and is settled by it; none of them starts
+-- behind the last one; and only a flow that takes requests has asked for bytes
 pub record KeepsSums (c : Config) (f : Flow) : Type 0 where
   pub asks : 0 < f.asked → takes_requests f.spec ≡ true
   pub granted : f.granted ≡ bytes_of f.grants.items
   pub turn : KnowsTurn f
   pub last : HaveStartedBy (last_slot f.grants.items) f.grants.items
-  pub periods : HasPeriods (live f)
+  pub charges : ChargesAtGrants (live f)
   pub limits : AreLimitsOf c (live f) f.limits
   pub settled : AreSettled (live f) f.limits
 
@@ -97,9 +95,9 @@ pub record IsCopy (f g : Flow) : Type 0 where
 -- within its reservation
 pub record IsSoundFlow (c : Config) (f : LiveFlow) : Type 0 where
   pub within : granted f ≤ f.asked
-  pub kept : KeepsCeiling c (rate_of f.spec) (burst_of f.spec) (in_period f)
-  pub peak_kept : KeepsCeiling c (peak_of f.spec) PEAK_BURST (in_peak_period f)
-  pub reserved_kept : KeepsCeiling c (reserved_of f.spec) (reserved_burst_of f.spec) (in_reserved_period f)
+  pub kept : KeepsCeiling c (rate_of f.spec) (burst_of f.spec) f.sustained
+  pub peak_kept : KeepsCeiling c (peak_of f.spec) PEAK_BURST f.peak
+  pub reserved_kept : KeepsCeiling c (reserved_of f.spec) (reserved_burst_of f.spec) f.reserved
 
 -- what is true of the flows of every book
 pub record IsSoundBook (c : Config) (flows : List LiveFlow) : Type 0 where

@@ -1,23 +1,39 @@
 -- The live flows, each with what it asked and was granted.
-use Rattle.std.specs.Prelude.{ℕ, ◌-◌, ◌==◌, List, sum_by, find, drop, Option}
+use Rattle.std.specs.Prelude.{ℕ, ◌-◌, ◌*◌, ◌≤◌, ◌==◌, List, [], ◌∷◌, ◌++◌, sum_by, find, map, Option}
+use Rattle.std.specs.List.{AllByRecursion}
 use Rattle.sched_calls.specs.declared.spec.FlowSpec.{FlowSpec}
 use Rattle.flow_book.specs.declared.batches.Batches.{Batches}
 use Rattle.flow_book.specs.declared.flow.Grant.{Grant}
 
--- a live flow: its SID and parameters, the bytes that it asked, the batches of its requests, its data grants in order,
--- and how many of them came before the present period of its ceiling, and before that of its peak rate; and those of
--- its data grants that are reserved grants, in order, and how many of these came before the present period of its
--- reservation
+-- a charge to a token bucket: the minislot at which it is made, and the tokens that it takes, of which 1280000 are a byte
+pub record Charge : Type 0 where
+  pub start : ℕ
+  pub tokens : ℕ
+
+-- what a data grant charges: its bytes, where it starts
+abbrev pub charge_of : Grant → Charge
+charge_of g = record { start = g.start; tokens = 1280000 * g.bytes }
+
+-- what some data grants charge
+abbrev pub charges_of : List Grant → List Charge
+charges_of grants = map charge_of grants
+
+-- some charges with one more behind them: that of a data grant of so many bytes at this minislot
+abbrev pub and_grant : List Charge → ℕ → ℕ → List Charge
+and_grant charges slot bytes = charges ++ charge_of (record { start = slot; bytes = bytes }) ∷ []
+
+-- a live flow: its SID and parameters, the bytes that it asked, the batches of its requests and its data grants in order;
+-- and in order too what is charged to its ceiling, to its peak rate and to its reservation, each in the present period
+-- of that
 pub record LiveFlow : Type 0 where
   pub sid : ℕ
   pub spec : FlowSpec
   pub asked : ℕ
   pub batches : Batches
   pub grants : List Grant
-  pub earlier : ℕ
-  pub peak_earlier : ℕ
-  pub reserved : List Grant
-  pub reserved_earlier : ℕ
+  pub sustained : List Charge
+  pub peak : List Charge
+  pub reserved : List Charge
 
 -- the bytes of some grants
 abbrev pub bytes_of : List Grant → ℕ
@@ -31,17 +47,17 @@ granted f = bytes_of f.grants
 abbrev pub outstanding : LiveFlow → ℕ
 outstanding f = f.asked - granted f
 
--- its data grants in the present period of its ceiling
-abbrev pub in_period : LiveFlow → List Grant
-in_period f = drop f.earlier f.grants
+-- the tokens of some charges
+abbrev pub tokens_of : List Charge → ℕ
+tokens_of charges = sum_by (λ g. g.tokens) charges
 
--- its data grants in the present period of its peak rate
-abbrev pub in_peak_period : LiveFlow → List Grant
-in_peak_period f = drop f.peak_earlier f.grants
+-- each of the grants starts at or before this minislot
+abbrev pub HaveStartedBy : ℕ → List Grant → Type 0
+HaveStartedBy slot grants = AllByRecursion (λ g. g.start ≤ slot) grants
 
--- its reserved grants in the present period of its reservation
-abbrev pub in_reserved_period : LiveFlow → List Grant
-in_reserved_period f = drop f.reserved_earlier f.reserved
+-- each of the charges is made at or before this minislot
+abbrev pub AreMadeBy : ℕ → List Charge → Type 0
+AreMadeBy slot charges = AllByRecursion (λ g. g.start ≤ slot) charges
 
 -- the live flow with this SID
 abbrev pub flow_of : ℕ → List LiveFlow → Option LiveFlow

@@ -1,15 +1,15 @@
 -- What the ceilings of a flow leave to it: its maximum sustained rate with its burst, and its peak rate; and what is
 -- left of its reservation.
-use Rattle.std.specs.Prelude.{◌≡◌, ℕ, ◌≤◌, length, true, false, if◌then◌else◌}
+use Rattle.std.specs.Prelude.{◌≡◌, ℕ, ◌≤◌, true, false, if◌then◌else◌}
 use Rattle.minislots.specs.declared.config.Config.{Config}
 use Rattle.sched_calls.specs.FlowSpec.{rate_of, burst_of, peak_of, reserved_of, reserved_burst_of}
 use Rattle.sched_calls.specs.declared.spec.TheConstants.{PEAK_BURST}
 use Rattle.flow_book.specs.declared.limits.Limits.{Limits}
-use Rattle.flow_book.specs.Flows.{LiveFlow, in_period, in_peak_period, in_reserved_period}
-use Rattle.flow_book.specs.Bucket.{HaveStartedBy, StandsFor, IsSettled, HasOneMore, StaysSettled, most_of}
+use Rattle.flow_book.specs.Flows.{LiveFlow, HaveStartedBy, AreMadeBy}
+use Rattle.flow_book.specs.Bucket.{StandsFor, IsSettled, HasOneMore, StaysSettled, most_of}
 use Rattle.flow_book.specs.Bucket.{reserves}
 
--- no grant that the buckets stand for is later than this minislot
+-- no charge that the buckets stand for is later than this minislot
 pub record HasBegunBy (slot : ℕ) (l : Limits) : Type 0 where
   pub sustained : l.sustained.since ≤ slot
   pub peak : l.peak.since ≤ slot
@@ -25,25 +25,23 @@ abbrev pub most_with : Limits → ℕ → ℕ → ℕ → ℕ
 most_with l slot wanted limit =
     most_in l slot (if reserves l.reserved slot wanted then most_of l.reserved slot limit else limit)
 
--- No present period begins behind the flow's last data grant, or its last reserved one, and reserved grants have started
--- where all data grants have
-pub record HasPeriods (f : LiveFlow) : Type 0 where
-  pub sustained : f.earlier ≤ length f.grants
-  pub peak : f.peak_earlier ≤ length f.grants
-  pub reserved : f.reserved_earlier ≤ length f.reserved
-  pub among : (slot : ℕ) → HaveStartedBy slot f.grants → HaveStartedBy slot f.reserved
+-- What is charged to a flow is made where its data grants have started
+pub record ChargesAtGrants (f : LiveFlow) : Type 0 where
+  pub sustained : (slot : ℕ) → HaveStartedBy slot f.grants → AreMadeBy slot f.sustained
+  pub peak : (slot : ℕ) → HaveStartedBy slot f.grants → AreMadeBy slot f.peak
+  pub reserved : (slot : ℕ) → HaveStartedBy slot f.grants → AreMadeBy slot f.reserved
 
--- each bucket stands for the flow's grants of the present period of its ceiling, or reservation
+-- each bucket stands for what is charged to its ceiling, or to the reservation
 pub record AreLimitsOf (c : Config) (f : LiveFlow) (l : Limits) : Type 0 where
-  pub sustained : StandsFor c (rate_of f.spec) (burst_of f.spec) l.sustained (in_period f)
-  pub peak : StandsFor c (peak_of f.spec) PEAK_BURST l.peak (in_peak_period f)
-  pub reserved : StandsFor c (reserved_of f.spec) (reserved_burst_of f.spec) l.reserved (in_reserved_period f)
+  pub sustained : StandsFor c (rate_of f.spec) (burst_of f.spec) l.sustained f.sustained
+  pub peak : StandsFor c (peak_of f.spec) PEAK_BURST l.peak f.peak
+  pub reserved : StandsFor c (reserved_of f.spec) (reserved_burst_of f.spec) l.reserved f.reserved
 
 -- and is settled by them
 pub record AreSettled (f : LiveFlow) (l : Limits) : Type 0 where
-  pub sustained : IsSettled l.sustained (in_period f)
-  pub peak : IsSettled l.peak (in_peak_period f)
-  pub reserved : IsSettled l.reserved (in_reserved_period f)
+  pub sustained : IsSettled l.sustained f.sustained
+  pub peak : IsSettled l.peak f.peak
+  pub reserved : IsSettled l.reserved f.reserved
 
 -- Each of the new buckets stands for one grant more to one that wants so many bytes at least, that of the reservation
 -- for a reserved one

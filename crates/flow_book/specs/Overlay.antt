@@ -18,9 +18,10 @@ pub record OverlayView : Type 0 where
   pub before : List LiveFlow
   pub flows : List LiveFlow
 
--- a flow is the same but for its data grants
+-- a flow is the same but for its data grants and what these charge
 abbrev pub IsSameFlow : LiveFlow → LiveFlow → Type 0
-IsSameFlow f g = record f { grants = g.grants; reserved = g.reserved } ≡ g
+IsSameFlow f g =
+    record f { grants = g.grants; sustained = g.sustained; peak = g.peak; reserved = g.reserved } ≡ g
 
 -- those that a MAP served have their tiers, and so have those of the queue that still wait
 pub record HaveTiers (is_long : Bool) (items : List Flow) (tiers : List Tier) (queue served : List Waiting) : Type 0 where

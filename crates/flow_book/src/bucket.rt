@@ -2,9 +2,9 @@
 
 ghost use Rattle.std.specs.Prelude.{◌≡◌, ℕ, List, ◌*◌, ◌/◌, ◌<◌, ◌≤◌, ◌^◌, ◌==◌, [], IsTrue, false, min};
 ghost use Rattle.minislots.specs.declared.config.Config.{Config};
-ghost use Rattle.flow_book.specs.declared.flow.Grant.{Grant};
+ghost use Rattle.flow_book.specs.Flows.{Charge, AreMadeBy};
 ghost use Rattle.flow_book.specs.Bucket.{level_of, most_of, StandsFor, AnswersLevel, AnswersCeiling, HasOneMore};
-ghost use Rattle.flow_book.specs.Bucket.{HaveStartedBy, IsSettled, StaysSettled, reserves};
+ghost use Rattle.flow_book.specs.Bucket.{IsSettled, StaysSettled, reserves};
 ghost use Rattle.flow_book.specs.FlowState.{level_after};
 ghost use Rattle.flow_book.specs.Tiers.{unlimited};
 
@@ -105,8 +105,8 @@ impl Bucket {
     // What there is at this minislot: none where there is no ceiling.
     pub(crate) fn state(&self, slot: u64) -> Option<u64>
         requires { self.now.since ≤ slot }
-        ensures { (c : Config) (rate burst : ℕ) (grants : List Grant) → StandsFor c rate burst self.now grants
-            → HaveStartedBy slot grants → result ≡ level_after c rate burst slot grants }
+        ensures { (c : Config) (rate burst : ℕ) (charges : List Charge) → StandsFor c rate burst self.now charges
+            → AreMadeBy slot charges → result ≡ level_after c rate burst slot charges }
     {
         if self.per_slot == 0 {
             return None;

@@ -2,11 +2,11 @@
 
 ghost use Rattle.std.specs.Prelude.{◌≡◌, ℕ, ◌+◌, ◌-◌, ◌<◌, ◌≤◌, ◌^◌, map, length, slice_index_or, IsTrue};
 ghost use Rattle.std.specs.Prelude.{◌↔◌, Option, None, Some, true, nat_lt, ◌&&◌, MatchOption, IfSome, option_map};
-ghost use Rattle.std.specs.Prelude.{option_copied, min, drop, ◌++◌, ◌∷◌, [], if◌then◌else◌};
+ghost use Rattle.std.specs.Prelude.{option_copied, min, List, ◌++◌, ◌∷◌, [], if◌then◌else◌};
 ghost use Rattle.std.specs.List.{AllByRecursion};
 ghost use Rattle.minislots.specs.declared.config.Config.{Config};
 ghost use Rattle.minislots.specs.Config.{IsLawful};
-ghost use Rattle.flow_book.specs.Flows.{granted, outstanding};
+ghost use Rattle.flow_book.specs.Flows.{Charge, HaveStartedBy, granted, outstanding};
 ghost use Rattle.flow_book.specs.Reserved.{wanted_of, is_under, rank_at, with_grant};
 ghost use Rattle.flow_book.specs.Standing.{has_room, waits_so};
 ghost use Rattle.flow_book.specs.Choice.{is_before, IsEligible, IsMost, KeepsWith};
@@ -14,8 +14,8 @@ ghost use Rattle.flow_book.specs.Choice.{IsNextOf, HasStartedBy, last_start};
 ghost use Rattle.sched_calls.specs.FlowSpec.{takes_requests, rate_of, burst_of, peak_of, reserved_of};
 ghost use Rattle.sched_calls.specs.FlowSpec.{rank_of, reserved_burst_of};
 ghost use Rattle.sched_calls.specs.declared.spec.TheConstants.{PEAK_BURST as THE_PEAK_BURST};
-ghost use Rattle.flow_book.specs.Bucket.{HaveStartedBy, StandsFor, IsSettled};
-ghost use Rattle.flow_book.specs.Limits.{HasBegunBy, HasPeriods, AreLimitsOf, AreSettled};
+ghost use Rattle.flow_book.specs.Bucket.{StandsFor, IsSettled};
+ghost use Rattle.flow_book.specs.Limits.{HasBegunBy, ChargesAtGrants, AreLimitsOf, AreSettled};
 ghost use Rattle.flow_book.specs.Entry.{live, room_in, IsSoundFlow, IsSoundBook, IsTurn, KnowsTurn, KeepsSums};
 ghost use Rattle.flow_book.specs.Entry.{asked_more, asked_instead, top_rank, turn_in};
 ghost use Rattle.flow_book.specs.Queue.{entry_of};
@@ -28,7 +28,6 @@ use crate::batches::Batches;
 use crate::flows::Flows;
 use crate::granted::GrantList;
 use crate::limits::{Limits, peak_of, reserved_of, sustained_of};
-use crate::period::Period;
 use crate::standing::Standing;
 use crate::tiers::Tier;
 use crate::waiting::Waiting;
@@ -88,14 +87,8 @@ pub(crate) struct Flow {
     pub(crate) limits: Limits,
     pub(crate) spec: FlowSpec,
     pub(crate) sid: u16,
-    // The data grants, in order, for contracts alone.
+    // The data grants, in order, and what they charge, for contracts alone.
     pub(crate) grants: GrantList,
-    // The present periods of its ceiling and of its peak rate, for contracts alone.
-    pub(crate) period: Period,
-    pub(crate) peak_period: Period,
-    // The reserved grants, in order, and the present period of its reservation, for contracts alone.
-    pub(crate) reserved: GrantList,
-    pub(crate) reserved_period: Period,
 }
 
 impl Flow {
@@ -113,10 +106,6 @@ impl Flow {
             turn: turn_of(top_rank(&spec), sid),
             limits: Limits::open(config, &spec),
             grants: GrantList::none(),
-            period: Period::first(),
-            peak_period: Period::first(),
-            reserved: GrantList::none(),
-            reserved_period: Period::first(),
         }
     }
 
@@ -168,72 +157,61 @@ impl Flow {
             → KeepsSums config.now self.old → KeepsSums config.now self.new }
     {
         self.turn = turn_in(self.turn, top_rank(&spec));
+        self.grants = GrantList::under(&self.grants, &self.spec, &spec);
         self.change_sustained(config, &spec);
         self.change_peak(config, &spec);
         self.change_reserved(config, &spec);
         self.spec = spec;
     }
 
-    // Begins a period of the flow's ceiling where that is another with these parameters.
+    // Fills the bucket of the flow's ceiling where that is another with these parameters.
     fn change_sustained(&mut self, config: &Checked, spec: &FlowSpec)
         ensures same { self.new ≡ record self.old {
           limits = record self.old.limits { sustained = self.new.limits.sustained };
-          period = self.new.period;
         } }
-        ensures period { self.new.period.earlier ≡ (if has_ceiling_of self.old.spec spec.now
-            then self.old.period.earlier else length self.old.grants.items) }
-        ensures bucket { StandsFor config.now (rate_of self.old.spec) (burst_of self.old.spec)
-            self.old.limits.sustained (drop self.old.period.earlier self.old.grants.items)
-            → StandsFor config.now (rate_of spec.now) (burst_of spec.now)
-            self.new.limits.sustained (drop self.new.period.earlier self.old.grants.items) }
-        ensures settled { IsSettled self.old.limits.sustained (drop self.old.period.earlier self.old.grants.items)
-            → IsSettled self.new.limits.sustained (drop self.new.period.earlier self.old.grants.items) }
+        ensures bucket { (charges : List Charge)
+            → StandsFor config.now (rate_of self.old.spec) (burst_of self.old.spec) self.old.limits.sustained charges
+            → StandsFor config.now (rate_of spec.now) (burst_of spec.now) self.new.limits.sustained
+            (if has_ceiling_of self.old.spec spec.now then charges else []) }
+        ensures settled { (charges : List Charge) → IsSettled self.old.limits.sustained charges
+            → IsSettled self.new.limits.sustained (if has_ceiling_of self.old.spec spec.now then charges else []) }
     {
         if !has_ceiling_of(&self.spec, spec) {
             self.limits.sustained = sustained_of(config, spec);
-            self.period = Period::behind(&self.grants);
         }
     }
 
-    // Begins a period of the flow's peak rate where that is another with these parameters.
+    // Fills the bucket of the flow's peak rate where that is another with these parameters.
     fn change_peak(&mut self, config: &Checked, spec: &FlowSpec)
         ensures same { self.new ≡ record self.old {
           limits = record self.old.limits { peak = self.new.limits.peak };
-          peak_period = self.new.peak_period;
         } }
-        ensures period { self.new.peak_period.earlier ≡ (if has_peak_of self.old.spec spec.now
-            then self.old.peak_period.earlier else length self.old.grants.items) }
-        ensures bucket { StandsFor config.now (peak_of self.old.spec) THE_PEAK_BURST
-            self.old.limits.peak (drop self.old.peak_period.earlier self.old.grants.items)
-            → StandsFor config.now (peak_of spec.now) THE_PEAK_BURST
-            self.new.limits.peak (drop self.new.peak_period.earlier self.old.grants.items) }
-        ensures settled { IsSettled self.old.limits.peak (drop self.old.peak_period.earlier self.old.grants.items)
-            → IsSettled self.new.limits.peak (drop self.new.peak_period.earlier self.old.grants.items) }
+        ensures bucket { (charges : List Charge)
+            → StandsFor config.now (peak_of self.old.spec) THE_PEAK_BURST self.old.limits.peak charges
+            → StandsFor config.now (peak_of spec.now) THE_PEAK_BURST self.new.limits.peak
+            (if has_peak_of self.old.spec spec.now then charges else []) }
+        ensures settled { (charges : List Charge) → IsSettled self.old.limits.peak charges
+            → IsSettled self.new.limits.peak (if has_peak_of self.old.spec spec.now then charges else []) }
     {
         if self.spec.peak() != spec.peak() {
             self.limits.peak = peak_of(config, spec);
-            self.peak_period = Period::behind(&self.grants);
         }
     }
 
-    // Begins a period of the flow's reservation where that is another with these parameters.
+    // Fills the bucket of the flow's reservation where that is another with these parameters.
     fn change_reserved(&mut self, config: &Checked, spec: &FlowSpec)
         ensures same { self.new ≡ record self.old {
           limits = record self.old.limits { reserved = self.new.limits.reserved };
-          reserved_period = self.new.reserved_period;
         } }
-        ensures period { self.new.reserved_period.earlier ≡ (if has_reserve_of self.old.spec spec.now
-            then self.old.reserved_period.earlier else length self.old.reserved.items) }
-        ensures bucket { StandsFor config.now (reserved_of self.old.spec) (reserved_burst_of self.old.spec)
-            self.old.limits.reserved (drop self.old.reserved_period.earlier self.old.reserved.items)
-            → StandsFor config.now (reserved_of spec.now) (reserved_burst_of spec.now)
-            self.new.limits.reserved (drop self.new.reserved_period.earlier self.old.reserved.items) }
-        ensures settled { IsSettled self.old.limits.reserved (drop self.old.reserved_period.earlier self.old.reserved.items)
-            → IsSettled self.new.limits.reserved (drop self.new.reserved_period.earlier self.old.reserved.items) }
+        ensures bucket { (charges : List Charge)
+            → StandsFor config.now (reserved_of self.old.spec) (reserved_burst_of self.old.spec) self.old.limits.reserved charges
+            → StandsFor config.now (reserved_of spec.now) (reserved_burst_of spec.now) self.new.limits.reserved
+            (if has_reserve_of self.old.spec spec.now then charges else []) }
+        ensures settled { (charges : List Charge) → IsSettled self.old.limits.reserved charges
+            → IsSettled self.new.limits.reserved (if has_reserve_of self.old.spec spec.now then charges else []) }
     {
         if !has_reserve_of(&self.spec, spec) {
             self.limits.reserved = reserved_of(config, spec);
-            self.reserved_period = Period::behind(&self.reserved);
         }
     }
 
@@ -366,27 +344,19 @@ impl Flow {
     }
 
     // Gives the flow the data grants that a MAP adds, and what the queue has of it with them.
-    pub(crate) fn take_over(
-        &mut self,
-        waiting: &Waiting,
-        tiers: &[Tier],
-        grants: GrantList,
-        reserved: GrantList,
-    )
+    pub(crate) fn take_over(&mut self, waiting: &Waiting, tiers: &[Tier], grants: GrantList)
         requires { waiting.now.wants ≤ self.old.asked }
         ensures { self.new ≡ record self.old {
           turn = waiting.now.turn;
           granted = self.old.asked - waiting.now.wants;
           limits = limits_in tiers.now waiting.now;
           grants = grants;
-          reserved = reserved;
         } }
     {
         self.turn = waiting.turn;
         self.granted = self.asked - waiting.wants;
         self.limits = waiting.limits(tiers);
         self.grants = grants;
-        self.reserved = reserved;
     }
 
     // Adds a data grant, for which there is room, of bytes that were asked. The grants start at or before
@@ -418,7 +388,7 @@ impl Flow {
         ensures sums { (c : Config) → is_reserved ≡ is_under c start (live self.old)
             → (0 < self.old.asked → takes_requests self.old.spec ≡ true)
             → self.old.granted ≡ granted (live self.old) → KnowsTurn self.old
-            → HasStartedBy start (live self.old) → HasPeriods (live self.old)
+            → HasStartedBy start (live self.old) → ChargesAtGrants (live self.old)
             → AreLimitsOf c (with_grant c (record { start = start; bytes = bytes }) (live self.old)) self.old.limits
             → AreSettled (with_grant c (record { start = start; bytes = bytes }) (live self.old)) self.old.limits
             → KeepsSums c self.new }
@@ -426,10 +396,7 @@ impl Flow {
         let grant = Grant { start, bytes };
         self.granted += u64::from(bytes);
         self.turn = turn_after(self.turn, start);
-        self.grants = GrantList::and(&self.grants, &grant);
-        if is_reserved {
-            self.reserved = GrantList::and(&self.reserved, &grant);
-        }
+        self.grants = GrantList::and(&self.grants, &grant, &is_reserved);
     }
 }
 

@@ -6,7 +6,7 @@ ghost use Rattle.flow_book.specs.Flows.{LiveFlow};
 ghost use Rattle.flow_book.specs.Reserved.{with_grant};
 ghost use Rattle.flow_book.specs.Book.{changed};
 ghost use Rattle.flow_book.specs.Entry.{live};
-ghost use Rattle.flow_book.specs.FlowList.{flows_code, grants_at, reserved_at};
+ghost use Rattle.flow_book.specs.FlowList.{flows_code, AreGrantsAt};
 
 use crate::flow::{Flow, Grant};
 use crate::flows::Flows;
@@ -63,14 +63,7 @@ impl FlowList {
 
     // The grants of the flow at this place, with no room for more.
     pub(crate) fn grants_at(_flows: &FlowList, _place: &usize) -> GrantList
-        ensures { result.items ≡ grants_at _place.now _flows.now.items }
-    {
-        GrantList {}
-    }
-
-    // The reserved grants of the flow at this place, with no room for more.
-    pub(crate) fn reserved_at(_flows: &FlowList, _place: &usize) -> GrantList
-        ensures { result.items ≡ reserved_at _place.now _flows.now.items }
+        ensures { AreGrantsAt _place.now _flows.now.items result }
     {
         GrantList {}
     }

@@ -15,7 +15,6 @@ mod limits;
 mod line;
 mod overlay;
 mod parts;
-mod period;
 mod queue;
 mod queue_list;
 mod shown;

@@ -24,12 +24,7 @@ pub(crate) fn take_over(flows: &mut Flows, served: &[Waiting], tiers: &[Tier], a
     for waiting in served {
         let place = waiting.place as usize;
         let flow = flows.at_mut(place);
-        flow.take_over(
-            waiting,
-            tiers,
-            FlowList::grants_at(after, &place),
-            FlowList::reserved_at(after, &place),
-        );
+        flow.take_over(waiting, tiers, FlowList::grants_at(after, &place));
     }
 }
 

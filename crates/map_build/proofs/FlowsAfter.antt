@@ -8,7 +8,7 @@ use Rattle.std.proofs.lemmas.List.{append-nil, append_assoc}
 use Rattle.std.proofs.lemmas.List.Elements.{filter_map-append}
 use Rattle.minislots.specs.declared.config.Config.{Config}
 use Rattle.flow_book.specs.declared.flow.Grant.{Grant}
-use Rattle.flow_book.specs.Flows.{LiveFlow, flow_of}
+use Rattle.flow_book.specs.Flows.{LiveFlow, charge_of, charges_of, flow_of}
 use Rattle.flow_book.specs.Reserved.{with_grant}
 use Rattle.flow_book.specs.Choice.{HasStartedBy}
 use Rattle.flow_book.specs.Book.{changed}
@@ -29,14 +29,20 @@ pub with_grants-more : (c : Config) (gs hs : List Grant) (f : LiveFlow)
 with_grants-more c [] hs f = refl
 with_grants-more c (g ∷ gs) hs f = with_grants-more c gs hs (with_grant c g f)
 
--- it is the same flow but for its grants and its reserved grants
-pub with_grants-is : (c : Config) (gs : List Grant) (f : LiveFlow)
-    → with_grants c gs f ≡ record f { grants = f.grants ++ gs; reserved = (with_grants c gs f).reserved }
-with_grants-is c [] f = ap (λ hs. record f { grants = hs }) (sym (append-nil f.grants))
+-- it is the same flow but for its grants and what they charge
+pub with_grants-is : (c : Config) (gs : List Grant) (f : LiveFlow) → with_grants c gs f ≡ record f {
+  grants = f.grants ++ gs;
+  sustained = f.sustained ++ charges_of gs;
+  peak = f.peak ++ charges_of gs;
+  reserved = (with_grants c gs f).reserved;
+}
+with_grants-is c [] f = rw (append-nil f.grants, append-nil f.sustained, append-nil f.peak) refl
 with_grants-is c (g ∷ gs) f =
-    with_grants-is c gs (with_grant c g f)
-    ∙ ap (λ hs. record f { grants = hs; reserved = (with_grants c (g ∷ gs) f).reserved })
-    (append_assoc f.grants (g ∷ []) gs)
+    rw (
+      append_assoc f.grants (g ∷ []) gs,
+      append_assoc f.sustained (charge_of g ∷ []) (charges_of gs),
+      append_assoc f.peak (charge_of g ∷ []) (charges_of gs),
+    ) at (with_grants-is c gs (with_grant c g f))
 
 -- so it has the same SID
 pub with_grants-sid : (c : Config) (gs : List Grant) (f : LiveFlow) → (with_grants c gs f).sid ≡ f.sid

@@ -24,10 +24,9 @@ fresh burst asked heard = record {
   asked = asked;
   batches = one_request asked heard;
   grants = [];
-  earlier = 0;
-  peak_earlier = 0;
+  sustained = [];
+  peak = [];
   reserved = [];
-  reserved_earlier = 0;
 }
 
 -- it may take up to 544 bytes at once, where these are no more than its burst

@@ -70,10 +70,9 @@ small = record {
   asked = 100;
   batches = one_request 100 801;
   grants = [];
-  earlier = 0;
-  peak_earlier = 0;
+  sustained = [];
+  peak = [];
   reserved = [];
-  reserved_earlier = 0;
 }
 
 -- a frame with its grant of nine minislots

@@ -1,10 +1,10 @@
 -- Worked examples of lawful MAPs of a flow at its peak rate.
-use Rattle.std.proofs.Common.{◌≡◌, ℕ, zero, suc, ◌<◌, ◌≤◌, List, [], ◌∷◌, length, map, refl, inl, inr, lit<, lit≤}
+use Rattle.std.proofs.Common.{◌≡◌, ℕ, zero, suc, ◌*◌, ◌<◌, ◌≤◌, List, [], ◌∷◌, length, map, refl, inl, inr, lit<, lit≤}
 use Rattle.std.proofs.Common.{min, arith}
 use Rattle.map_codec.specs.Element.{word_of}
 use Rattle.sched_calls.specs.declared.spec.FlowSpec.TheVariants.{BestEffort}
 use Rattle.flow_book.specs.declared.flow.Grant.{Grant}
-use Rattle.flow_book.specs.Flows.{LiveFlow, outstanding}
+use Rattle.flow_book.specs.Flows.{LiveFlow, charges_of, outstanding}
 use Rattle.flow_book.specs.Ceiling.{KeepsCeiling}
 use Rattle.flow_book.specs.Choice.{MayTake, IsNext, IsAmount}
 use Rattle.sched_calls.specs.declared.frame_map.FrameMap.{FrameMap}
@@ -37,27 +37,28 @@ abbrev pub two : List Grant
 two = grant 844 544 ∷ grant 884 544 ∷ []
 
 -- a grant of at most 544 bytes keeps the peak where it is the first, and the second
-kept_first : (start bytes : ℕ) → bytes ≤ 544 → KeepsCeiling base 64000 1522 (grant start bytes ∷ [])
+kept_first : (start bytes : ℕ) → bytes ≤ 544 → KeepsCeiling base 64000 1522 (charges_of (grant start bytes ∷ []))
 kept_first start bytes few = KeepsCeiling-first base 64000 1522 (grant start bytes) (omega arith)
 
-one_leaves : (bytes : ℕ) → bytes ≤ 544 → (k : ℕ) → k < length one → Leaves base 64000 1522 one 884 bytes k
+one_leaves : (bytes : ℕ) → bytes ≤ 544 → (k : ℕ) → k < length one → Leaves base 64000 1522 (charges_of one) 884 (1280000 * bytes) k
 one_leaves bytes few zero lt = omega arith
 one_leaves bytes few (suc k) lt = absurd (omega arith)
 
-kept_second : (bytes : ℕ) → bytes ≤ 544 → KeepsCeiling base 64000 1522 (grant 844 544 ∷ grant 884 bytes ∷ [])
+kept_second : (bytes : ℕ) → bytes ≤ 544
+    → KeepsCeiling base 64000 1522 (charges_of (grant 844 544 ∷ grant 884 bytes ∷ []))
 kept_second bytes few =
-    keeps-more base 64000 1522 884 bytes one (kept_first 844 544 (lit≤ tt)) (λ positive. omega arith)
+    keeps-more base 64000 1522 884 (1280000 * bytes) (charges_of one) (kept_first 844 544 (lit≤ tt)) (λ positive. omega arith)
     (λ positive. one_leaves bytes few)
 
 -- and a third one of 64 does
-two_leaves : (k : ℕ) → k < length two → Leaves base 64000 1522 two 924 64 k
+two_leaves : (k : ℕ) → k < length two → Leaves base 64000 1522 (charges_of two) 924 (1280000 * 64) k
 two_leaves zero lt = lit≤ tt
 two_leaves (suc zero) lt = lit≤ tt
 two_leaves (suc (suc k)) lt = absurd (omega arith)
 
-kept_third : KeepsCeiling base 64000 1522 (three 64)
+kept_third : KeepsCeiling base 64000 1522 (charges_of (three 64))
 kept_third =
-    keeps-more base 64000 1522 924 64 two (kept_second 544 (lit≤ tt)) (λ positive. lit≤ tt) (λ positive. two_leaves)
+    keeps-more base 64000 1522 924 (1280000 * 64) (charges_of two) (kept_second 544 (lit≤ tt)) (λ positive. lit≤ tt) (λ positive. two_leaves)
 
 -- so it may be granted up to 544 bytes in the first two frames
 may_take_first : (bytes : ℕ) → bytes ≤ 544 → MayTake base (under_peak []) 844 36 bytes

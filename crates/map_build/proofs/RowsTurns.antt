@@ -4,7 +4,7 @@ use Rattle.map_codec.specs.Element.{word_of}
 use Rattle.sched_calls.specs.declared.spec.FlowSpec.TheVariants.{BestEffort}
 use Rattle.flow_book.proofs.Profile.{one_request}
 use Rattle.flow_book.specs.declared.flow.Grant.{Grant}
-use Rattle.flow_book.specs.Flows.{LiveFlow}
+use Rattle.flow_book.specs.Flows.{LiveFlow, charges_of}
 use Rattle.flow_book.specs.Choice.{IsNext, IsAmount}
 use Rattle.sched_calls.specs.declared.frame_map.FrameMap.{FrameMap}
 use Rattle.map_build.specs.declared.purpose.Allocation.{Allocation}
@@ -27,10 +27,9 @@ lower grants = record {
   asked = 1000;
   batches = one_request 1000 801;
   grants = grants;
-  earlier = 0;
-  peak_earlier = 0;
+  sustained = charges_of grants;
+  peak = charges_of grants;
   reserved = [];
-  reserved_earlier = 0;
 }
 
 -- a flow of the next SID that is the same otherwise
@@ -41,10 +40,9 @@ higher grants = record {
   asked = 1000;
   batches = one_request 1000 801;
   grants = grants;
-  earlier = 0;
-  peak_earlier = 0;
+  sustained = charges_of grants;
+  peak = charges_of grants;
   reserved = [];
-  reserved_earlier = 0;
 }
 
 -- a grant of 544 bytes at this minislot

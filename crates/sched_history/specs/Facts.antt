@@ -10,7 +10,7 @@ use Rattle.map_codec.specs.Element.{nulls}
 use Rattle.sched_calls.specs.FlowSpec.{rate_of, burst_of, peak_of, reserved_of, reserved_burst_of, interval_frames}
 use Rattle.sched_calls.specs.FlowSpec.{jitter_slots}
 use Rattle.sched_calls.specs.declared.spec.TheConstants.{PEAK_BURST}
-use Rattle.flow_book.specs.Flows.{LiveFlow, granted, in_period, in_peak_period, in_reserved_period}
+use Rattle.flow_book.specs.Flows.{LiveFlow, granted}
 use Rattle.flow_book.specs.Ceiling.{KeepsCeiling}
 use Rattle.periodic.specs.Placement.{Placed, phase_of, offset_of}
 use Rattle.sched_calls.specs.declared.frame_map.FrameMap.{FrameMap}
@@ -46,16 +46,16 @@ IsWithinAsked f = granted f ≤ f.asked
 
 -- the flow's grants in the present period of its ceiling keep its rate and burst over every window
 abbrev pub IsWithinRate : Config → LiveFlow → Type 0
-IsWithinRate c f = KeepsCeiling c (rate_of f.spec) (burst_of f.spec) (in_period f)
+IsWithinRate c f = KeepsCeiling c (rate_of f.spec) (burst_of f.spec) f.sustained
 
 -- the flow's grants in the present period of its peak rate keep that, and the burst of one, over every window
 abbrev pub IsWithinPeak : Config → LiveFlow → Type 0
-IsWithinPeak c f = KeepsCeiling c (peak_of f.spec) PEAK_BURST (in_peak_period f)
+IsWithinPeak c f = KeepsCeiling c (peak_of f.spec) PEAK_BURST f.peak
 
 -- the flow's reserved grants in the present period of its reservation keep the reserved rate and its burst over every
 -- window
 abbrev pub IsWithinReserved : Config → LiveFlow → Type 0
-IsWithinReserved c f = KeepsCeiling c (reserved_of f.spec) (reserved_burst_of f.spec) (in_reserved_period f)
+IsWithinReserved c f = KeepsCeiling c (reserved_of f.spec) (reserved_burst_of f.spec) f.reserved
 
 -- the SIDs of the flows that wait for bytes where the next frame starts and stand so to their rates, in order
 abbrev pub waits_next : Standing → Config → List Entry → List ℕ

@@ -1,5 +1,5 @@
 -- The lives of flows in a history: admissions, removals, requests and grants.
-use Rattle.std.specs.Prelude.{ℕ, ◌+◌, Bool, true, false, not, ◌&&◌, nat_lt, ◌==◌, List, [], ◌∷◌, ◌++◌, length}
+use Rattle.std.specs.Prelude.{ℕ, ◌+◌, Bool, true, false, not, ◌&&◌, nat_lt, ◌==◌, List, [], ◌∷◌, ◌++◌}
 use Rattle.std.specs.Prelude.{sum_by, filter_map, flat_map, zip, Option, None, Some, option_map, option_and_then}
 use Rattle.std.specs.Prelude.{if◌then◌else◌}
 use Rattle.std.specs.Option.{option_map_or}
@@ -10,7 +10,7 @@ use Rattle.sched_calls.specs.declared.spec.FlowSpec.{FlowSpec}
 use Rattle.flow_book.specs.declared.flow.Grant.{Grant}
 use Rattle.flow_book.specs.declared.batches.Batches.{Batches}
 use Rattle.flow_book.specs.Batches.{no_batches, with_request}
-use Rattle.flow_book.specs.Flows.{LiveFlow, bytes_of}
+use Rattle.flow_book.specs.Flows.{LiveFlow, Charge, charges_of, bytes_of}
 use Rattle.flow_book.specs.Book.{has_ceiling_of, has_peak_of, has_reserve_of}
 use Rattle.map_build.specs.Plan.{with_grants}
 use Rattle.sched_calls.specs.declared.placement.Placement.{Placement}
@@ -147,49 +147,40 @@ period_after same sid given period (e ∷ entries) =
 abbrev pub period_of : (FlowSpec → FlowSpec → Bool) → ℕ → Life → List Entry
 period_of same sid life = period_after same sid life.admission [] life.since
 
--- how many data grants of a life came before that
-abbrev pub earlier_in : (FlowSpec → FlowSpec → Bool) → ℕ → Life → ℕ
-earlier_in same sid life = length (grants_since sid (up_to life.since (period_of same sid life)))
+-- what the data grants of a life charge to a ceiling: those of its present period
+abbrev pub charged_in : (FlowSpec → FlowSpec → Bool) → ℕ → Life → List Charge
+charged_in same sid life = charges_of (grants_since sid (period_of same sid life))
 
--- what a reservation has: its reserved grants, and how many of them came before its present period
-pub record Reservation : Type 0 where
-  pub reserved : List Grant
-  pub earlier : ℕ
-
--- a flow of these parameters with these entries since its life began, as its reservation sees it
-abbrev pub reserving : Config → ℕ → FlowSpec → List Entry → Reservation → LiveFlow
-reserving c sid spec before r =
+-- a flow of these parameters with these entries since its life began, and with this charged to its reservation
+abbrev pub reserving : Config → ℕ → FlowSpec → List Entry → List Charge → LiveFlow
+reserving c sid spec before charged =
     record {
       sid = sid;
       spec = spec;
       asked = asked_in c sid before;
       batches = no_batches;
       grants = grants_since sid before;
-      earlier = 0;
-      peak_earlier = 0;
-      reserved = r.reserved;
-      reserved_earlier = r.earlier;
+      sustained = [];
+      peak = [];
+      reserved = charged;
     }
 
--- the reservation of such a flow after an entry: its data grants of a MAP are reserved ones where it is under its
--- reservation at their starts, and a change that gives it another reservation begins a period
-abbrev pub reservation_by : Config → ℕ → FlowSpec → List Entry → Reservation → Entry → Reservation
-reservation_by c sid spec before r e = record {
-  reserved = (with_grants c (grants_by sid e.reply) (reserving c sid spec before r)).reserved;
-  earlier = if changes_ceiling has_reserve_of sid spec e then length r.reserved else r.earlier;
-}
+-- what is charged to the reservation of such a flow after an entry: its data grants of a MAP too where it is under its
+-- reservation at their starts, and nothing where a change gives it another reservation
+abbrev pub reservation_by : Config → ℕ → FlowSpec → List Entry → List Charge → Entry → List Charge
+reservation_by c sid spec before charged e = if changes_ceiling has_reserve_of sid spec e then []
+    else (with_grants c (grants_by sid e.reply) (reserving c sid spec before charged)).reserved
 
--- the reservation after more entries of a life, which follow those before, by which the flow has these parameters
-abbrev pub reservation_after : Config → ℕ → Admission → Reservation → List Entry → List Entry → Reservation
-reservation_after c sid given r before [] = r
-reservation_after c sid given r before (e ∷ entries) =
-    reservation_after c sid (given_after sid given (e ∷ [])) (reservation_by c sid given.spec before r e)
-    (before ++ e ∷ []) entries
+-- the same after more entries of a life, which follow those before, by which the flow has these parameters
+abbrev pub reservation_after : Config → ℕ → Admission → List Charge → List Entry → List Entry → List Charge
+reservation_after c sid given charged before [] = charged
+reservation_after c sid given charged before (e ∷ entries) =
+    reservation_after c sid (given_after sid given (e ∷ []))
+    (reservation_by c sid given.spec before charged e) (before ++ e ∷ []) entries
 
--- the reservation of a life
-abbrev pub reservation_of : Config → ℕ → Life → Reservation
-reservation_of c sid life =
-    reservation_after c sid life.admission (record { reserved = []; earlier = 0 }) [] life.since
+-- what is charged to the reservation of a life: its reserved grants of the present period
+abbrev pub reservation_of : Config → ℕ → Life → List Charge
+reservation_of c sid life = reservation_after c sid life.admission [] [] life.since
 
 -- whether an unsolicited flow rests from an entry on: while nothing says so it does not
 abbrev pub rest_by : ℕ → Call → Reply → Option Bool
@@ -215,10 +206,9 @@ flow_in_life c sid life =
       asked = asked_in c sid life.since;
       batches = batches_in c sid life.since;
       grants = grants_since sid life.since;
-      earlier = earlier_in has_ceiling_of sid life;
-      peak_earlier = earlier_in has_peak_of sid life;
-      reserved = (reservation_of c sid life).reserved;
-      reserved_earlier = (reservation_of c sid life).earlier;
+      sustained = charged_in has_ceiling_of sid life;
+      peak = charged_in has_peak_of sid life;
+      reserved = reservation_of c sid life;
     }
 
 -- the placed flow that a life is

@@ -1,18 +1,17 @@
 -- The live flows of a legal history: each was granted at most what it asked, within its ceilings.
-use Rattle.std.proofs.Common.{◌≡◌, ℕ, ◌+◌, ◌≤◌, Bool, true, false, not, if◌then◌else◌, List, [], ◌∷◌, ◌++◌, length}
-use Rattle.std.proofs.Common.{drop, Option, None}
+use Rattle.std.proofs.Common.{◌≡◌, ℕ, ◌+◌, ◌≤◌, Bool, true, false, not, if◌then◌else◌, List, [], ◌∷◌, ◌++◌}
+use Rattle.std.proofs.Common.{Option, None}
 use Rattle.std.proofs.Common.{Some, refl, sym, ap, ◌∙◌, subst, Contains, arith}
 use Rattle.std.specs.List.{AllByRecursion}
 use Rattle.std.specs.Option.{option_map, option_map_or}
 use Rattle.std.proofs.lemmas.Bool.Decides.{nat_tests}
-use Rattle.std.proofs.lemmas.List.{append-nil, drop_all}
+use Rattle.std.proofs.lemmas.List.{append-nil}
 use Rattle.minislots.specs.declared.config.Config.{Config}
 use Rattle.flow_book.specs.declared.batches.Batches.{Batches}
 use Rattle.sched_calls.specs.declared.spec.FlowSpec.{FlowSpec}
 use Rattle.sched_calls.specs.FlowSpec.{rate_of, burst_of, peak_of, reserved_of, reserved_burst_of}
 use Rattle.sched_calls.specs.declared.spec.TheConstants.{PEAK_BURST}
-use Rattle.flow_book.specs.declared.flow.Grant.{Grant}
-use Rattle.flow_book.specs.Flows.{LiveFlow, granted}
+use Rattle.flow_book.specs.Flows.{LiveFlow, Charge, charges_of, granted}
 use Rattle.flow_book.specs.Book.{has_ceiling_of, has_peak_of, has_reserve_of}
 use Rattle.flow_book.specs.Ceiling.{KeepsCeiling}
 use Rattle.flow_book.specs.Entry.{IsSoundFlow}
@@ -37,12 +36,12 @@ use Rattle.sched_history.proofs.steps.LegalHistories.{change_by_step, legal_indu
 use Rattle.sched_history.proofs.lives.LivesAfter.{with_since, life_of-stays, life_of-begins, life_of-ends}
 use Rattle.sched_history.proofs.lives.FlowsAfter.{grown_by, flow_in_life-more}
 use Rattle.sched_history.proofs.lists.Members.{IsImage, Contains-filter_map, all-chosen}
-use Rattle.sched_history.proofs.plans.SoundPlans.{IsSoundLife, sound_plan}
+use Rattle.sched_history.proofs.plans.SoundPlans.{sound_plan}
 use Rattle.sched_history.proofs.flows.MapGrants.{plan-HasBytes, grants_of_map-plan}
 
 -- the life of every SID is sound
 abbrev HasSoundLives : Config → List Entry → Type 0
-HasSoundLives c h = (sid : ℕ) (life : Life) → life_of sid h ≡ Some life → IsSoundLife c (flow_in_life c sid life)
+HasSoundLives c h = (sid : ℕ) (life : Life) → life_of sid h ≡ Some life → IsSoundFlow c (flow_in_life c sid life)
 
 -- a flow in a live SID's life
 flow_said : (c : Config) (sid : ℕ) (o : Option Life) (f : LiveFlow) → option_map (flow_in_life c sid) o ≡ Some f
@@ -87,94 +86,57 @@ reserves-common : AreCommon has_reserve_of reserved_of reserved_burst_of
 reserves-common spec other same = (grind (arith, nat_tests), grind (arith, nat_tests))
 
 module _ (c : Config) (same : FlowSpec → FlowSpec → Bool) (rate burst : FlowSpec → ℕ)
-    (common : AreCommon same rate burst) (grants : List Grant) where
-  -- the grants of a flow keep the ceiling of its parameters, of which so many came before its period
-  abbrev Keeps : FlowSpec → ℕ → Type 0
-  Keeps spec earlier = KeepsCeiling c (rate spec) (burst spec) (drop earlier grants)
+    (common : AreCommon same rate burst) (charges : List Charge) where
+  -- charges keep the ceiling of these parameters
+  abbrev Keeps : FlowSpec → List Charge → Type 0
+  Keeps spec charged = KeepsCeiling c (rate spec) (burst spec) charged
 
-  keeps-given : (spec other : FlowSpec) (earlier : ℕ) (stays : Bool) → same spec other ≡ stays → Keeps spec earlier
-      → Keeps other (if not stays then length grants else earlier)
-  keeps-given spec other earlier true is keeps =
-      let ceiling = common spec other is in rw (← ceiling.0, ← ceiling.1) keeps
-  keeps-given spec other earlier false is keeps =
-      rw (drop_all (length grants) grants (omega arith)) (λ some i j le within. absurd (omega arith))
+  keeps-given : (spec other : FlowSpec) (stays : Bool) → same spec other ≡ stays → Keeps spec charges
+      → Keeps other (if not stays then [] else charges)
+  keeps-given spec other true is keeps = let ceiling = common spec other is in rw (← ceiling.0, ← ceiling.1) keeps
+  keeps-given spec other false is keeps = λ some i j le within. absurd (omega arith)
 
-  keeps-then : (spec : FlowSpec) (earlier : ℕ) (o : Option Admission) → Keeps spec earlier
+  keeps-then : (spec : FlowSpec) (o : Option Admission) → Keeps spec charges
       → Keeps (option_map_or (λ a. a.spec) o spec)
-      (if option_map_or (λ a. not (same spec a.spec)) o false then length grants else earlier)
-  keeps-then spec earlier None keeps = keeps
-  keeps-then spec earlier (Some a) keeps = keeps-given spec a.spec earlier (same spec a.spec) refl keeps
-
-begun-then : (begins : Bool) (all earlier : ℕ) → earlier ≤ all → (if begins then all else earlier) ≤ all
-begun-then true all earlier le = omega arith
-begun-then false all earlier le = le
+      (if option_map_or (λ a. not (same spec a.spec)) o false then [] else charges)
+  keeps-then spec None keeps = keeps
+  keeps-then spec (Some a) keeps = keeps-given spec a.spec (same spec a.spec) refl keeps
 
 -- a flow is sound with what an entry asks for it and gives to it
 sound_then : (c : Config) (f : LiveFlow) (given : Option Admission) (replaced : Option ℕ) (more : ℕ) (batches : Batches)
-    → IsSoundLife c f → IsSoundLife c (record f {
+    → IsSoundFlow c f → IsSoundFlow c (record f {
       spec = option_map_or (λ a. a.spec) given f.spec;
       asked = option_map_or (λ bytes. granted f + bytes) replaced (f.asked + more);
       batches = batches;
-      earlier = if option_map_or (λ a. not (has_ceiling_of f.spec a.spec)) given false then length f.grants
-          else f.earlier;
-      peak_earlier = if option_map_or (λ a. not (has_peak_of f.spec a.spec)) given false then length f.grants
-          else f.peak_earlier;
-      reserved_earlier = if option_map_or (λ a. not (has_reserve_of f.spec a.spec)) given false then length f.reserved
-          else f.reserved_earlier;
+      sustained = if option_map_or (λ a. not (has_ceiling_of f.spec a.spec)) given false then [] else f.sustained;
+      peak = if option_map_or (λ a. not (has_peak_of f.spec a.spec)) given false then [] else f.peak;
+      reserved = if option_map_or (λ a. not (has_reserve_of f.spec a.spec)) given false then [] else f.reserved;
     })
 sound_then c f given replaced more batches is = record {
-  sound = record {
-    within = within-then replaced (granted f) f.asked more is.sound.within;
-    kept = keeps-then c has_ceiling_of rate_of burst_of ceilings-common f.grants f.spec f.earlier given is.sound.kept;
-    peak_kept = keeps-then c has_peak_of peak_of (λ spec. PEAK_BURST) peaks-common f.grants f.spec f.peak_earlier given
-        is.sound.peak_kept;
-    reserved_kept = keeps-then c has_reserve_of reserved_of reserved_burst_of reserves-common f.reserved f.spec
-        f.reserved_earlier given is.sound.reserved_kept;
-  };
-  begun = record {
-    sustained = begun-then (option_map_or (λ a. not (has_ceiling_of f.spec a.spec)) given false) (length f.grants)
-        f.earlier is.begun.sustained;
-    peak = begun-then (option_map_or (λ a. not (has_peak_of f.spec a.spec)) given false) (length f.grants)
-        f.peak_earlier is.begun.peak;
-    reserved = begun-then (option_map_or (λ a. not (has_reserve_of f.spec a.spec)) given false) (length f.reserved)
-        f.reserved_earlier is.begun.reserved;
-    among = is.begun.among;
-  };
+  within = within-then replaced (granted f) f.asked more is.within;
+  kept = keeps-then c has_ceiling_of rate_of burst_of ceilings-common f.sustained f.spec given is.kept;
+  peak_kept = keeps-then c has_peak_of peak_of (λ spec. PEAK_BURST) peaks-common f.peak f.spec given is.peak_kept;
+  reserved_kept = keeps-then c has_reserve_of reserved_of reserved_burst_of reserves-common f.reserved f.spec given
+      is.reserved_kept;
 }
 
 -- a flow whose grants a MAP has more of is sound
-sound_more : (c : Config) (f : LiveFlow) (more : ℕ) (batches : Batches) → IsSoundLife c f
-    → IsSoundLife c (record f { asked = f.asked + more; batches = batches })
+sound_more : (c : Config) (f : LiveFlow) (more : ℕ) (batches : Batches) → IsSoundFlow c f
+    → IsSoundFlow c (record f { asked = f.asked + more; batches = batches })
 sound_more c f more batches is = record {
-  sound = record {
-    within = omega (arith, is.sound.within);
-    kept = is.sound.kept;
-    peak_kept = is.sound.peak_kept;
-    reserved_kept = is.sound.reserved_kept;
-  };
-  begun = record {
-    sustained = is.begun.sustained;
-    peak = is.begun.peak;
-    reserved = is.begun.reserved;
-    among = is.begun.among;
-  };
+  within = omega (arith, is.within);
+  kept = is.kept;
+  peak_kept = is.peak_kept;
+  reserved_kept = is.reserved_kept;
 }
 
 -- a flow without grants is sound
-sound_new : (c : Config) (sid : ℕ) (life : Life) → life.since ≡ [] → IsSoundLife c (flow_in_life c sid life)
+sound_new : (c : Config) (sid : ℕ) (life : Life) → life.since ≡ [] → IsSoundFlow c (flow_in_life c sid life)
 sound_new c sid life new = rw new (record {
-  sound = record {
-    within = omega arith;
-    kept = λ some i j le within. absurd (omega arith);
-    peak_kept = λ some i j le within. absurd (omega arith);
-    reserved_kept = λ some i j le within. absurd (omega arith);
-  };
-  begun = record {
-    sustained = omega arith;
-    peak = omega arith;
-    reserved = omega arith;
-    among = λ slot started. tt;
-  };
+  within = omega arith;
+  kept = λ some i j le within. absurd (omega arith);
+  peak_kept = λ some i j le within. absurd (omega arith);
+  reserved_kept = λ some i j le within. absurd (omega arith);
 })
 
 ungranted : (sid : ℕ) (reply : Reply) → map_by reply ≡ None → grants_by sid reply ≡ []
@@ -182,10 +144,10 @@ ungranted sid (replies.Built m) none = absurd (cc)
 ungranted sid reply none = refl
 
 module _ (c : Config) (h : List Entry) (sid : ℕ) (life : Life) (lives : life_of sid h ≡ Some life)
-    (sound : IsSoundLife c (flow_in_life c sid life)) where
+    (sound : IsSoundFlow c (flow_in_life c sid life)) where
   -- the grants of the next MAP keep a live flow sound
   sound_map : (m : FrameMap) → IsNextMap c h m
-      → IsSoundLife c (with_grants c (grants_of_map sid m) (flow_in_life c sid life))
+      → IsSoundFlow c (with_grants c (grants_of_map sid m) (flow_in_life c sid life))
   sound_map m next =
       let plan : List Allocation = next.0 in
       let d : Demand = demand_after c h in
@@ -196,10 +158,11 @@ module _ (c : Config) (h : List Entry) (sid : ℕ) (life : Life) (lives : life_o
       (sound_plan c d (flow_in_life c sid life)
       (flows_of-alone c h sid life lives) [] plan next.1.each sound)
 
-  sound_still : (e : Entry) → map_by e.reply ≡ None → IsSoundLife c (grown_by c e (flow_in_life c sid life))
+  sound_still : (e : Entry) → map_by e.reply ≡ None → IsSoundFlow c (grown_by c e (flow_in_life c sid life))
   sound_still e none =
-      rw (ungranted sid e.reply none, append-nil)
-      (sound_then c (flow_in_life c sid life) (change_by sid e.call e.reply) (replaced_by c sid e.call e.reply)
+      let f : LiveFlow = flow_in_life c sid life in
+      rw (ungranted sid e.reply none, append-nil f.grants, append-nil f.sustained, append-nil f.peak)
+      (sound_then c f (change_by sid e.call e.reply) (replaced_by c sid e.call e.reply)
       (added_by c sid e.call e.reply) _ sound)
 
   -- a MAP answers no request, and no change
@@ -210,17 +173,19 @@ module _ (c : Config) (h : List Entry) (sid : ℕ) (life : Life) (lives : life_o
   unasked call m = (refl, refl)
 
   sound_built : (e : Entry) (m : FrameMap) → IsNextMap c h m → e.reply ≡ replies.Built m
-      → IsSoundLife c (grown_by c e (flow_in_life c sid life))
+      → IsSoundFlow c (grown_by c e (flow_in_life c sid life))
   sound_built e m next is =
       rw (is, (unasked e.call m).0, (unasked e.call m).1)
       (sound_more c (record (flow_in_life c sid life) {
         grants = (flow_in_life c sid life).grants ++ grants_of_map sid m;
+        sustained = (flow_in_life c sid life).sustained ++ charges_of (grants_of_map sid m);
+        peak = (flow_in_life c sid life).peak ++ charges_of (grants_of_map sid m);
         reserved = (with_grants c (grants_of_map sid m) (flow_in_life c sid life)).reserved;
       }) (added_by c sid e.call (replies.Built m)) _
-      (subst (IsSoundLife c) (with_grants-is c (grants_of_map sid m) (flow_in_life c sid life)) (sound_map m next)))
+      (subst (IsSoundFlow c) (with_grants-is c (grants_of_map sid m) (flow_in_life c sid life)) (sound_map m next)))
 
   -- so does each legal entry
-  sound_grown : (e : Entry) → IsStep c h e.call e.reply → IsSoundLife c (grown_by c e (flow_in_life c sid life))
+  sound_grown : (e : Entry) → IsStep c h e.call e.reply → IsSoundFlow c (grown_by c e (flow_in_life c sid life))
   sound_grown e step = elim (change_by_step c h e.call e.reply step) [
     | legal.Builds m next same ↦ sound_built e m next same
     | legal.Skips now start is first same ↦ sound_still e (ap map_by same)
@@ -231,16 +196,16 @@ module _ (c : Config) where
   -- a life that goes on
   goes_on : (h : List Entry) (e : Entry) (sid : ℕ) (old : Option Life) (life : Life) → life_of sid h ≡ old
       → option_map (with_since e) old ≡ Some life
-      → IsStep c h e.call e.reply → HasSoundLives c h → IsSoundLife c (flow_in_life c sid life)
+      → IsStep c h e.call e.reply → HasSoundLives c h → IsSoundFlow c (flow_in_life c sid life)
   goes_on h e sid None life was is step sound = absurd (cc)
   goes_on h e sid (Some old) life was is step sound =
       let them : with_since e old ≡ life = cc in
-      subst (λ l. IsSoundLife c (flow_in_life c sid l)) them
+      subst (λ l. IsSoundFlow c (flow_in_life c sid l)) them
       (rw (flow_in_life-more c sid e old) (sound_grown c h sid old was (sound sid old was) e step))
 
   turned : (h : List Entry) (e : Entry) (sid : ℕ) (turn : Option Turn) (life : Life) → turn_by sid e.call e.reply ≡ turn
       → life_of sid (h ++ e ∷ []) ≡ Some life
-      → IsStep c h e.call e.reply → HasSoundLives c h → IsSoundLife c (flow_in_life c sid life)
+      → IsStep c h e.call e.reply → HasSoundLives c h → IsSoundFlow c (flow_in_life c sid life)
   turned h e sid None life is lives step sound = goes_on h e sid (life_of sid h) life refl
       (sym (life_of-stays sid h e is) ∙ lives) step sound
   turned h e sid (Some (Begins admission)) life is lives step sound =
@@ -264,7 +229,7 @@ module _ (c : Config) where
   flow_sound h sid f legal is =
       let said : (life : Life) × (life_of sid h ≡ Some life) × (flow_in_life c sid life ≡ f) =
       flow_said c sid (life_of sid h) f is in
-      subst (IsSoundFlow c) said.2 (lives_sound h legal sid said.0 said.1).sound
+      subst (IsSoundFlow c) said.2 (lives_sound h legal sid said.0 said.1)
 
   -- no live flow was granted more than it asked
   pub within_asked : (h : List Entry) → IsLegal c h → AllByRecursion IsWithinAsked (flows_of c h)

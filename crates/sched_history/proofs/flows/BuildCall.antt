@@ -3,7 +3,7 @@ use Rattle.std.proofs.Common.{◌≡◌, ℕ, ◌+◌, List, [], ◌∷◌, ◌+
 use Rattle.std.specs.List.{AllByRecursion}
 use Rattle.minislots.specs.declared.config.Config.{Config}
 use Rattle.minislots.specs.declared.stamp.Stamp.{Stamp}
-use Rattle.flow_book.specs.Flows.{LiveFlow}
+use Rattle.flow_book.specs.Flows.{LiveFlow, charges_of}
 use Rattle.flow_book.specs.declared.flow.Grant.{Grant}
 use Rattle.sched_calls.specs.declared.frame_map.FrameMap.{FrameMap}
 use Rattle.sched_calls.specs.declared.opportunity.Header.{Header}
@@ -26,6 +26,8 @@ granted_flow : (c : Config) (f : LiveFlow) (grants more : List Grant) → grants
     → record f {
       asked = f.asked + 0;
       grants = f.grants ++ grants;
+      sustained = f.sustained ++ charges_of grants;
+      peak = f.peak ++ charges_of grants;
       reserved = (with_grants c grants f).reserved;
     } ≡ with_grants c more f
 granted_flow c f grants more same =

@@ -1,6 +1,6 @@
 -- The live flows and placements after a flow has other parameters.
 use Rattle.std.proofs.Common.{◌≡◌, ◌≢◌, ℕ, ◌+◌, ◌≤◌, Bool, true, false, not, ◌==◌, if◌then◌else◌, List, [], ◌∷◌, ◌++◌}
-use Rattle.std.proofs.Common.{length, Option, None, Some, refl, sym, ap, ◌∙◌, arith, append-nil, inl, inr}
+use Rattle.std.proofs.Common.{Option, None, Some, refl, sym, ap, ◌∙◌, arith, append-nil, inl, inr}
 use Rattle.std.specs.List.{filter_map}
 use Rattle.std.specs.Option.{option_map, option_map_or, option_and_then}
 use Rattle.std.proofs.lemmas.Bool.{cases_eq}
@@ -8,7 +8,7 @@ use Rattle.minislots.specs.declared.config.Config.{Config}
 use Rattle.minislots.specs.declared.stamp.Stamp.{Stamp}
 use Rattle.sched_calls.specs.declared.spec.FlowSpec.{FlowSpec}
 use Rattle.sched_calls.specs.declared.placement.Placement.{Placement}
-use Rattle.flow_book.specs.Flows.{LiveFlow}
+use Rattle.flow_book.specs.Flows.{LiveFlow, Charge}
 use Rattle.flow_book.specs.Book.{changed, has_ceiling_of, has_peak_of, has_reserve_of, with_spec}
 use Rattle.periodic.specs.Placement.{Placed}
 use Rattle.periodic.specs.Table.{placed_at as new_placed, with_placed, without as without_placed}
@@ -25,45 +25,51 @@ use Rattle.sched_history.proofs.lives.FlowsAfter.{placed_with, placed_at-stays}
 use Rattle.sched_history.proofs.flows.FlowCalls.{map-each, eqb-sym, other_turn, own_turn, kept_other, kept_own}
 use Rattle.sched_history.proofs.flows.Admissions.{put_in-placed}
 
-begun : (same : Bool) (all earlier : ℕ) → (if not same then all else earlier) ≡ (if same then earlier else all)
-begun true all earlier = refl
-begun false all earlier = refl
+begun : (same : Bool) (charged : List Charge)
+    → (if not same then [] else charged ++ []) ≡ (if same then charged else [])
+begun true charged = append-nil charged
+begun false charged = refl
+
+begun-reserved : (same : Bool) (charged : List Charge)
+    → (if not same then [] else charged) ≡ (if same then charged else [])
+begun-reserved true charged = refl
+begun-reserved false charged = refl
 
 -- a flow with other parameters, or another
 changed_flow : (b : Bool) (given : Admission) (f : LiveFlow) → record f {
   spec = option_map_or (λ a. a.spec) (if b then Some given else None) f.spec;
   asked = f.asked + 0;
   grants = f.grants ++ [];
-  earlier = if option_map_or (λ a. not (has_ceiling_of f.spec a.spec)) (if b then Some given else None) false
-      then length f.grants else f.earlier;
-  peak_earlier = if option_map_or (λ a. not (has_peak_of f.spec a.spec)) (if b then Some given else None) false
-      then length f.grants else f.peak_earlier;
-  reserved_earlier = if option_map_or (λ a. not (has_reserve_of f.spec a.spec)) (if b then Some given else None) false
-      then length f.reserved else f.reserved_earlier;
+  sustained = if option_map_or (λ a. not (has_ceiling_of f.spec a.spec)) (if b then Some given else None) false
+      then [] else f.sustained ++ [];
+  peak = if option_map_or (λ a. not (has_peak_of f.spec a.spec)) (if b then Some given else None) false
+      then [] else f.peak ++ [];
+  reserved = if option_map_or (λ a. not (has_reserve_of f.spec a.spec)) (if b then Some given else None) false
+      then [] else f.reserved;
 } ≡ (if b then with_spec given.spec f else f)
 changed_flow true given f =
     let none : f.asked + 0 ≡ f.asked = omega arith in
     rw (
       none,
       append-nil f.grants,
-      begun (has_ceiling_of f.spec given.spec) (length f.grants) f.earlier,
-      begun (has_peak_of f.spec given.spec) (length f.grants) f.peak_earlier,
-      begun (has_reserve_of f.spec given.spec) (length f.reserved) f.reserved_earlier,
+      begun (has_ceiling_of f.spec given.spec) f.sustained,
+      begun (has_peak_of f.spec given.spec) f.peak,
+      begun-reserved (has_reserve_of f.spec given.spec) f.reserved,
     ) refl
-changed_flow false given f = let none : f.asked + 0 ≡ f.asked = omega arith in rw (none, append-nil f.grants) refl
+changed_flow false given f =
+    let none : f.asked + 0 ≡ f.asked = omega arith in
+    rw (none, append-nil f.grants, append-nil f.sustained, append-nil f.peak) refl
 
 changed_this : (sid : ℕ) (given : Admission) (f : LiveFlow) → record f {
   spec = option_map_or (λ a. a.spec) (if sid == f.sid then Some given else None) f.spec;
   asked = f.asked + 0;
   grants = f.grants ++ [];
-  earlier = if option_map_or (λ a. not (has_ceiling_of f.spec a.spec)) (if sid == f.sid then Some given else None) false
-      then length f.grants else f.earlier;
-  peak_earlier = if option_map_or (λ a. not (has_peak_of f.spec a.spec))
-      (if sid == f.sid then Some given else None) false
-      then length f.grants else f.peak_earlier;
-  reserved_earlier = if option_map_or (λ a. not (has_reserve_of f.spec a.spec))
-      (if sid == f.sid then Some given else None) false
-      then length f.reserved else f.reserved_earlier;
+  sustained = if option_map_or (λ a. not (has_ceiling_of f.spec a.spec)) (if sid == f.sid then Some given else None) false
+      then [] else f.sustained ++ [];
+  peak = if option_map_or (λ a. not (has_peak_of f.spec a.spec)) (if sid == f.sid then Some given else None) false
+      then [] else f.peak ++ [];
+  reserved = if option_map_or (λ a. not (has_reserve_of f.spec a.spec)) (if sid == f.sid then Some given else None) false
+      then [] else f.reserved;
 } ≡ (if f.sid == sid then with_spec given.spec f else f)
 changed_this sid given f = rw (eqb-sym sid f.sid) (changed_flow (f.sid == sid) given f)
 

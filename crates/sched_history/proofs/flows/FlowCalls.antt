@@ -32,9 +32,13 @@ asked_flow : (b : Bool) (bytes heard : ℕ) (f : LiveFlow) → record f {
   asked = f.asked + cond {A = ℕ} b bytes 0;
   batches = cond b (with_request f.batches f.asked (granted f) bytes heard) f.batches;
   grants = f.grants ++ [];
+  sustained = f.sustained ++ [];
+  peak = f.peak ++ [];
 } ≡ cond b (with_asked bytes heard f) f
-asked_flow true bytes heard f = rw (append-nil f.grants) refl
-asked_flow false bytes heard f = let none : f.asked + 0 ≡ f.asked = omega arith in rw (none, append-nil f.grants) refl
+asked_flow true bytes heard f = rw (append-nil f.grants, append-nil f.sustained, append-nil f.peak) refl
+asked_flow false bytes heard f =
+    let none : f.asked + 0 ≡ f.asked = omega arith in
+    rw (none, append-nil f.grants, append-nil f.sustained, append-nil f.peak) refl
 
 -- a test whether two numbers are the same, either way round
 pub eqb-sym : (m n : ℕ) → (m == n) ≡ (n == m)
@@ -44,6 +48,8 @@ asked_this : (sid bytes heard : ℕ) (f : LiveFlow) → record f {
   asked = f.asked + (if sid == f.sid then bytes else 0);
   batches = if sid == f.sid then with_request f.batches f.asked (granted f) bytes heard else f.batches;
   grants = f.grants ++ [];
+  sustained = f.sustained ++ [];
+  peak = f.peak ++ [];
 } ≡ (if f.sid == sid then with_asked bytes heard f else f)
 asked_this sid bytes heard f = rw (eqb-sym sid f.sid) (asked_flow (f.sid == sid) bytes heard f)
 

@@ -21,15 +21,20 @@ replaced_flow : (b : Bool) (bytes heard : ℕ) (f : LiveFlow) → record f {
   asked = option_map_or (λ n. granted f + n) (if b then Some bytes else None) (f.asked + 0);
   batches = if b then with_request f.batches (granted f) (granted f) bytes heard else f.batches;
   grants = f.grants ++ [];
+  sustained = f.sustained ++ [];
+  peak = f.peak ++ [];
 } ≡ (if b then with_replaced bytes heard f else f)
-replaced_flow true bytes heard f = rw (append-nil f.grants) refl
+replaced_flow true bytes heard f = rw (append-nil f.grants, append-nil f.sustained, append-nil f.peak) refl
 replaced_flow false bytes heard f =
-    let none : f.asked + 0 ≡ f.asked = omega arith in rw (none, append-nil f.grants) refl
+    let none : f.asked + 0 ≡ f.asked = omega arith in
+    rw (none, append-nil f.grants, append-nil f.sustained, append-nil f.peak) refl
 
 replaced_this : (sid bytes heard : ℕ) (f : LiveFlow) → record f {
   asked = option_map_or (λ n. granted f + n) (if sid == f.sid then Some bytes else None) (f.asked + 0);
   batches = if sid == f.sid then with_request f.batches (granted f) (granted f) bytes heard else f.batches;
   grants = f.grants ++ [];
+  sustained = f.sustained ++ [];
+  peak = f.peak ++ [];
 } ≡ (if f.sid == sid then with_replaced bytes heard f else f)
 replaced_this sid bytes heard f = rw (eqb-sym sid f.sid) (replaced_flow (f.sid == sid) bytes heard f)
 

@@ -1,7 +1,7 @@
 -- The live flows and placements after one more entry.
-use Rattle.std.proofs.Common.{◌≡◌, ℕ, ◌+◌, Bool, true, false, not, if◌then◌else◌, List, [], ◌∷◌, ◌++◌, length, map}
+use Rattle.std.proofs.Common.{◌≡◌, ℕ, ◌+◌, Bool, true, false, not, if◌then◌else◌, List, [], ◌∷◌, ◌++◌, map}
 use Rattle.std.proofs.Common.{Option, None, Some, refl, sym, ap, ◌∙◌, arith, append-nil}
-use Rattle.std.proofs.lemmas.List.{append_assoc}
+use Rattle.std.proofs.lemmas.List.{append_assoc, map-append}
 use Rattle.std.specs.Option.{option_map, option_map_or, option_and_then}
 use Rattle.std.proofs.lemmas.List.Sums.{sum_by_push}
 use Rattle.std.proofs.lemmas.Grind.{flat_map-append}
@@ -9,7 +9,7 @@ use Rattle.minislots.specs.declared.config.Config.{Config}
 use Rattle.flow_book.specs.declared.flow.Grant.{Grant}
 use Rattle.flow_book.specs.declared.batches.Batches.{Batches}
 use Rattle.flow_book.specs.Batches.{no_batches}
-use Rattle.flow_book.specs.Flows.{LiveFlow, bytes_of, granted}
+use Rattle.flow_book.specs.Flows.{LiveFlow, Charge, charge_of, charges_of, bytes_of, granted}
 use Rattle.flow_book.specs.Reserved.{with_grant}
 use Rattle.flow_book.specs.Book.{has_ceiling_of, has_peak_of, has_reserve_of}
 use Rattle.map_build.specs.Plan.{with_grants}
@@ -24,8 +24,8 @@ use Rattle.sched_calls.specs.declared.reply.Entry.{Entry}
 use Rattle.sched_history.specs.Latest.{Found, up_to, latest}
 use Rattle.sched_history.specs.Life.{Admission, turn_by, Life, life_of, added_by, added_in, replaced_by, asked_in}
 use Rattle.sched_history.specs.Life.{grants_by, grants_since, batches_by, batches_after, batches_in, change_by}
-use Rattle.sched_history.specs.Life.{given_after, given_in, changes_ceiling, period_after, period_of, earlier_in}
-use Rattle.sched_history.specs.Life.{Reservation, reservation_by, reservation_after}
+use Rattle.sched_history.specs.Life.{given_after, given_in, changes_ceiling, period_after, period_of, charged_in}
+use Rattle.sched_history.specs.Life.{reservation_by, reservation_after}
 use Rattle.sched_history.specs.Life.{rest_by, rests_in, flow_in_life, placed_in_life, sids, flows_of, table_of}
 use Rattle.sched_history.proofs.lists.Latests.{with_after, latest-says, latest-silent, or_else, said-push, said-cons}
 use Rattle.sched_history.proofs.lists.Latests.{up_to-push, up_to-none}
@@ -42,9 +42,10 @@ abbrev pub asked_then : Config → ℕ → Entry → ℕ → ℕ → ℕ
 asked_then c sid e asked granted = option_map_or (λ bytes. granted + bytes) (replaced_by c sid e.call e.reply)
     (asked + added_by c sid e.call e.reply)
 
--- how many grants came before the period of a ceiling after an entry, of a flow that had so many in all
-abbrev pub earlier_then : (FlowSpec → FlowSpec → Bool) → ℕ → Entry → FlowSpec → ℕ → ℕ → ℕ
-earlier_then same sid e spec earlier all = if changes_ceiling same sid spec e then all else earlier
+-- what is charged to a ceiling after an entry: nothing where that gives another, and else what it grants too
+abbrev pub charged_then : (FlowSpec → FlowSpec → Bool) → ℕ → Entry → FlowSpec → List Charge → List Charge
+charged_then same sid e spec charged =
+    if changes_ceiling same sid spec e then [] else charged ++ charges_of (grants_by sid e.reply)
 
 -- a live flow with what an entry asks for it, grants to it and gives to it
 abbrev pub grown_by : Config → Entry → LiveFlow → LiveFlow
@@ -53,10 +54,10 @@ grown_by c e f = record f {
   asked = asked_then c f.sid e f.asked (granted f);
   batches = batches_by c f.sid e.call e.reply f.batches f.asked (granted f);
   grants = f.grants ++ grants_by f.sid e.reply;
-  earlier = earlier_then has_ceiling_of f.sid e f.spec f.earlier (length f.grants);
-  peak_earlier = earlier_then has_peak_of f.sid e f.spec f.peak_earlier (length f.grants);
-  reserved = (with_grants c (grants_by f.sid e.reply) f).reserved;
-  reserved_earlier = earlier_then has_reserve_of f.sid e f.spec f.reserved_earlier (length f.reserved);
+  sustained = charged_then has_ceiling_of f.sid e f.spec f.sustained;
+  peak = charged_then has_peak_of f.sid e f.spec f.peak;
+  reserved = if changes_ceiling has_reserve_of f.sid f.spec e then []
+      else (with_grants c (grants_by f.sid e.reply) f).reserved;
 }
 
 -- the grants in these entries and one more
@@ -170,33 +171,23 @@ module _ (same : FlowSpec → FlowSpec → Bool) where
       (changes_ceiling same sid (given_after sid next entries).spec e)
       (period_after same sid next [] entries) (period_after same sid next (period ++ d ∷ []) entries) e)
 
-  changes-ungranted : (sid : ℕ) (spec : FlowSpec) (e : Entry) (o : Option Admission) → change_by sid e.call e.reply ≡ o
-      → option_map_or (λ a. not (same spec a.spec)) o false ≡ true → grants_by sid e.reply ≡ []
-  changes-ungranted sid spec e None is changes = absurd cc
-  changes-ungranted sid spec e (Some a) is changes = changed-ungranted sid e.call e.reply a is
+-- what is charged in a period that goes on, or begins
+charged-by : (sid : ℕ) (period : List Entry) (e : Entry) (begins : Bool)
+    → charges_of (grants_since sid (if begins then [] else period ++ e ∷ []))
+    ≡ (if begins then [] else charges_of (grants_since sid period) ++ charges_of (grants_by sid e.reply))
+charged-by sid period e true = refl
+charged-by sid period e false =
+    ap charges_of (grants_since-push sid period e) ∙ map-append charge_of (grants_since sid period) (grants_by sid e.reply)
 
-earlier-by : (sid : ℕ) (since period : List Entry) (e : Entry) (begins : Bool)
-    → (begins ≡ true → grants_by sid e.reply ≡ [])
-    → length (grants_since sid (up_to (since ++ e ∷ []) (if begins then [] else period ++ e ∷ [])))
-    ≡ (if begins then length (grants_since sid since) else length (grants_since sid (up_to since period)))
-earlier-by sid since period e true ungranted =
-    ap (λ xs. length (grants_since sid xs)) (up_to-none (since ++ e ∷ []))
-    ∙ ap length (grants_since-push sid since e ∙ ap (λ gs. grants_since sid since ++ gs) (ungranted refl)
-    ∙ append-nil (grants_since sid since))
-earlier-by sid since period e false ungranted =
-    ap (λ xs. length (grants_since sid xs)) (up_to-push since period e)
+charged-more : (same : FlowSpec → FlowSpec → Bool) (sid : ℕ) (e : Entry) (life : Life)
+    → charged_in same sid (with_since e life)
+    ≡ charged_then same sid e (given_in sid life).spec (charged_in same sid life)
+charged-more same sid e life =
+    ap (λ xs. charges_of (grants_since sid xs)) (period_after-push same sid life.admission [] life.since e)
+    ∙ charged-by sid (period_of same sid life) e (changes_ceiling same sid (given_in sid life).spec e)
 
-earlier-more : (same : FlowSpec → FlowSpec → Bool) (sid : ℕ) (e : Entry) (life : Life)
-    → earlier_in same sid (with_since e life)
-    ≡ earlier_then same sid e (given_in sid life).spec (earlier_in same sid life) (length (grants_since sid life.since))
-earlier-more same sid e life =
-    ap (λ xs. length (grants_since sid (up_to (life.since ++ e ∷ []) xs)))
-    (period_after-push same sid life.admission [] life.since e)
-    ∙ earlier-by sid life.since (period_of same sid life) e (changes_ceiling same sid (given_in sid life).spec e)
-    (changes-ungranted same sid (given_in sid life).spec e (change_by sid e.call e.reply) refl)
-
--- the reservation after some entries and one more
-reservation_after-push : (c : Config) (sid : ℕ) (given : Admission) (r : Reservation) (before entries : List Entry)
+-- what is charged to the reservation after some entries and one more
+reservation_after-push : (c : Config) (sid : ℕ) (given : Admission) (r : List Charge) (before entries : List Entry)
     (e : Entry) → reservation_after c sid given r before (entries ++ e ∷ [])
     ≡ reservation_by c sid (given_after sid given entries).spec (before ++ entries)
     (reservation_after c sid given r before entries) e
@@ -210,12 +201,13 @@ reservation_after-push c sid given r before (d ∷ entries) e =
     reservation_after-push c sid next (reservation_by c sid given.spec before r d) (before ++ d ∷ []) entries e in
     rw gives (rw append_assoc at rest)
 
--- what the reserved grants are does not depend on the other periods, or on the batches
-reserved-free : (c : Config) (gs : List Grant) (f : LiveFlow) (batches : Batches) (earlier peak : ℕ)
-    → (with_grants c gs (record f { batches = batches; earlier = earlier; peak_earlier = peak })).reserved
+-- what is charged to the reservation does not depend on what is to the ceilings, or on the batches
+reserved-free : (c : Config) (gs : List Grant) (f : LiveFlow) (batches : Batches) (sustained peak : List Charge)
+    → (with_grants c gs (record f { batches = batches; sustained = sustained; peak = peak })).reserved
     ≡ (with_grants c gs f).reserved
-reserved-free c [] f batches earlier peak = refl
-reserved-free c (g ∷ gs) f batches earlier peak = reserved-free c gs (with_grant c g f) batches earlier peak
+reserved-free c [] f batches sustained peak = refl
+reserved-free c (g ∷ gs) f batches sustained peak =
+    reserved-free c gs (with_grant c g f) batches (sustained ++ charge_of g ∷ []) (peak ++ charge_of g ∷ [])
 
 -- what a life has with one entry more
 pub given_in-more : (sid : ℕ) (e : Entry) (life : Life)
@@ -233,10 +225,10 @@ flow_in_life-more c sid e life =
       asked_in-push c sid life.since e,
       batches_in-push c sid life.since e,
       grants_since-push sid life.since e,
-      earlier-more has_ceiling_of sid e life,
-      earlier-more has_peak_of sid e life,
-      reservation_after-push c sid life.admission (record { reserved = []; earlier = 0 }) [] life.since e,
-      reserved-free c (grants_by sid e.reply) (flow_in_life c sid life) no_batches 0 0,
+      charged-more has_ceiling_of sid e life,
+      charged-more has_peak_of sid e life,
+      reservation_after-push c sid life.admission [] [] life.since e,
+      reserved-free c (grants_by sid e.reply) (flow_in_life c sid life) no_batches [] [],
     ) refl
 
 grown-map : (c : Config) (sid : ℕ) (e : Entry) (o : Option Life)
@@ -328,17 +320,25 @@ same_flow : (f : LiveFlow) (change : Option Admission) (replaced : Option ℕ) (
       asked = option_map_or (λ bytes. granted f + bytes) replaced (f.asked + added);
       batches = batches;
       grants = f.grants ++ grants;
-      earlier = if option_map_or (λ a. not (has_ceiling_of f.spec a.spec)) change false then length f.grants
-          else f.earlier;
-      peak_earlier = if option_map_or (λ a. not (has_peak_of f.spec a.spec)) change false then length f.grants
-          else f.peak_earlier;
-      reserved = (with_grants c grants f).reserved;
-      reserved_earlier = if option_map_or (λ a. not (has_reserve_of f.spec a.spec)) change false then length f.reserved
-          else f.reserved_earlier;
+      sustained = if option_map_or (λ a. not (has_ceiling_of f.spec a.spec)) change false then []
+          else f.sustained ++ charges_of grants;
+      peak = if option_map_or (λ a. not (has_peak_of f.spec a.spec)) change false then []
+          else f.peak ++ charges_of grants;
+      reserved = if option_map_or (λ a. not (has_reserve_of f.spec a.spec)) change false then []
+          else (with_grants c grants f).reserved;
     } ≡ f
 same_flow f change replaced added batches grants c unchanged unreplaced none same nothing =
     let more : f.asked + added ≡ f.asked = omega arith in
-    rw (unchanged, unreplaced, more, same, nothing, append-nil f.grants) refl
+    rw (
+      unchanged,
+      unreplaced,
+      more,
+      same,
+      nothing,
+      append-nil f.grants,
+      append-nil f.sustained,
+      append-nil f.peak,
+    ) refl
 
 map-same : {X : Type 0} (k : X → X) (xs : List X) → ((x : X) → k x ≡ x) → map k xs ≡ xs
 map-same k [] same = refl

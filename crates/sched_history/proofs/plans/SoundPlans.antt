@@ -10,9 +10,7 @@ use Rattle.flow_book.specs.Flows.{LiveFlow}
 use Rattle.flow_book.specs.Reserved.{with_grant}
 use Rattle.flow_book.specs.Choice.{IsAmount}
 use Rattle.flow_book.specs.Entry.{IsSoundFlow}
-use Rattle.flow_book.specs.Limits.{HasPeriods}
 use Rattle.flow_book.proofs.Changes.{granted-sound}
-use Rattle.flow_book.proofs.Periods.{periods-more}
 use Rattle.map_build.specs.declared.purpose.Allocation.{Allocation}
 use Rattle.map_build.specs.declared.purpose.Purpose.{Purpose}
 use Rattle.map_build.specs.declared.purpose.Purpose.TheVariants.{DataGrant}
@@ -21,19 +19,6 @@ use Rattle.map_build.specs.Purpose.{grant_to}
 use Rattle.map_build.specs.Plan.{Demand, grants_to, flow_after, flows_after, room_at, IsOfClass, Stands}
 use Rattle.map_build.proofs.FlowsAfter.{with_grants-more, with_grants-sid}
 use Rattle.sched_history.proofs.lists.Members.{IsImage, Contains-map}
-
--- A flow is sound, and its grants before the present period of each of its ceilings are some of its first
-pub record IsSoundLife (c : Config) (f : LiveFlow) : Type 0 where
-  pub sound : IsSoundFlow c f
-  pub begun : HasPeriods f
-
--- a flow is sound with a grant more of the amount
-sound_with : (c : Config) (f : LiveFlow) (start room bytes : ℕ) → IsSoundLife c f → IsAmount c f start room bytes
-    → IsSoundLife c (with_grant c (record { start = start; bytes = bytes }) f)
-sound_with c f start room bytes is amount = record {
-  sound = granted-sound c start bytes room f is.sound is.begun amount.allowed;
-  begun = periods-more c f (record { start = start; bytes = bytes }) is.begun;
-}
 
 -- a flow after one allocation more, that grants it nothing, or a grant
 after_other : (c : Config) (start : ℕ) (before : List Allocation) (a : Allocation) (f : LiveFlow)
@@ -76,8 +61,8 @@ module _ (c : Config) (d : Demand) (f : LiveFlow)
   sound_grant : (before : List Allocation) (a : Allocation) (other bytes : ℕ) (same : Bool) → other == f.sid ≡ same
       → a.purpose ≡ DataGrant other bytes
       → IsOfClass c d before a.offset a.slots (DataGrant other bytes)
-      → IsSoundLife c (flow_after c start before f)
-      → IsSoundLife c (flow_after c start (before ++ a ∷ []) f)
+      → IsSoundFlow c (flow_after c start before f)
+      → IsSoundFlow c (flow_after c start (before ++ a ∷ []) f)
   sound_grant before a other bytes false test is stands sound =
       let none : grant_to start f.sid (DataGrant other bytes) a.offset ≡ None = rw test refl in
       rw (after_other c start before a f (ap (λ p. grant_to start f.sid p a.offset) is ∙ none)) sound
@@ -90,12 +75,12 @@ module _ (c : Config) (d : Demand) (f : LiveFlow)
       only_after before g stands.3.live (stands.2 ∙ eqb-true other f.sid test) in
       rw (after_grant c start before a f (record { start = start + a.offset; bytes = bytes })
       (ap (λ p. grant_to start f.sid p a.offset) is ∙ some))
-      (sound_with c (flow_after c start before f) (start + a.offset) (room_at c d.spots a.offset) bytes sound
-      (subst (λ g. IsAmount c g (start + a.offset) (room_at c d.spots a.offset) bytes) (sym them) stands.4))
+      (granted-sound c (start + a.offset) bytes (room_at c d.spots a.offset) (flow_after c start before f) sound
+      (subst (λ g. IsAmount c g (start + a.offset) (room_at c d.spots a.offset) bytes) (sym them) stands.4).allowed)
 
   sound_more : (before : List Allocation) (a : Allocation) (purpose : Purpose) → a.purpose ≡ purpose
-      → IsOfClass c d before a.offset a.slots purpose → IsSoundLife c (flow_after c start before f)
-      → IsSoundLife c (flow_after c start (before ++ a ∷ []) f)
+      → IsOfClass c d before a.offset a.slots purpose → IsSoundFlow c (flow_after c start before f)
+      → IsSoundFlow c (flow_after c start (before ++ a ∷ []) f)
   sound_more before a (DataGrant sid bytes) is stands sound =
       sound_grant before a sid bytes (sid == f.sid) refl is stands sound
   sound_more before a purpose is stands sound =
@@ -103,7 +88,7 @@ module _ (c : Config) (d : Demand) (f : LiveFlow)
 
   -- a flow that is sound before some allocations is sound after them
   pub sound_plan : (before plan : List Allocation) → EachAfter (Stands c d) before plan
-      → IsSoundLife c (flow_after c start before f) → IsSoundLife c (flow_after c start (before ++ plan) f)
+      → IsSoundFlow c (flow_after c start before f) → IsSoundFlow c (flow_after c start (before ++ plan) f)
   sound_plan before [] each sound = rw append-nil sound
   sound_plan before (a ∷ plan) each sound = rw append_assoc at
       (sound_plan (before ++ a ∷ []) plan each.1 (sound_more before a a.purpose refl each.0.purpose sound))

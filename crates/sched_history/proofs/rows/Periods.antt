@@ -4,7 +4,7 @@ use Rattle.sched_calls.specs.declared.spec.FlowSpec.{FlowSpec}
 use Rattle.sched_calls.specs.declared.spec.FlowSpec.TheVariants.{BestEffort}
 use Rattle.sched_calls.proofs.Base.{base}
 use Rattle.flow_book.specs.declared.flow.Grant.{Grant}
-use Rattle.flow_book.specs.Flows.{LiveFlow, in_period, in_peak_period}
+use Rattle.flow_book.specs.Flows.{LiveFlow, charges_of}
 use Rattle.flow_book.proofs.RowsCeiling.{grant}
 use Rattle.map_build.proofs.RowsFirstGrant.{first_grant}
 use Rattle.map_build.proofs.RowsCeiling.{second_grant}
@@ -35,36 +35,36 @@ second = grant 884 544 ∷ []
 
 -- a change of the peak rate alone begins a period of that, and leaves the other
 pub another_peak_begins_its_period :
-    (in_peak_period (flow_with (changed 4 (BestEffort 3 64000 1600 128000 0 0) ∷ [])) ≡ second)
-    × (in_period (flow_with (changed 4 (BestEffort 3 64000 1600 128000 0 0) ∷ [])) ≡ second_grants)
+    ((flow_with (changed 4 (BestEffort 3 64000 1600 128000 0 0) ∷ [])).peak ≡ charges_of second)
+    × ((flow_with (changed 4 (BestEffort 3 64000 1600 128000 0 0) ∷ [])).sustained ≡ charges_of second_grants)
 another_peak_begins_its_period = (refl, refl)
 
 -- a change of the rate alone, or of the burst, the other way round
 pub another_rate_leaves_the_peak :
-    (in_peak_period (flow_with (changed 4 (BestEffort 3 128000 1600 64000 0 0) ∷ [])) ≡ second_grants)
-    × (in_period (flow_with (changed 4 (BestEffort 3 128000 1600 64000 0 0) ∷ [])) ≡ second)
+    ((flow_with (changed 4 (BestEffort 3 128000 1600 64000 0 0) ∷ [])).peak ≡ charges_of second_grants)
+    × ((flow_with (changed 4 (BestEffort 3 128000 1600 64000 0 0) ∷ [])).sustained ≡ charges_of second)
 another_rate_leaves_the_peak = (refl, refl)
 
 pub another_burst_leaves_the_peak :
-    (in_peak_period (flow_with (changed 4 (BestEffort 3 64000 2000 64000 0 0) ∷ [])) ≡ second_grants)
-    × (in_period (flow_with (changed 4 (BestEffort 3 64000 2000 64000 0 0) ∷ [])) ≡ second)
+    ((flow_with (changed 4 (BestEffort 3 64000 2000 64000 0 0) ∷ [])).peak ≡ charges_of second_grants)
+    × ((flow_with (changed 4 (BestEffort 3 64000 2000 64000 0 0) ∷ [])).sustained ≡ charges_of second)
 another_burst_leaves_the_peak = (refl, refl)
 
 -- a change of the priority leaves both, and one of both begins both
 pub another_priority_leaves_both :
-    (in_peak_period (flow_with (changed 4 (BestEffort 5 64000 1600 64000 0 0) ∷ [])) ≡ second_grants)
-    × (in_period (flow_with (changed 4 (BestEffort 5 64000 1600 64000 0 0) ∷ [])) ≡ second_grants)
+    ((flow_with (changed 4 (BestEffort 5 64000 1600 64000 0 0) ∷ [])).peak ≡ charges_of second_grants)
+    × ((flow_with (changed 4 (BestEffort 5 64000 1600 64000 0 0) ∷ [])).sustained ≡ charges_of second_grants)
 another_priority_leaves_both = (refl, refl)
 
 pub others_of_both_begin_both :
-    (in_peak_period (flow_with (changed 4 (BestEffort 3 128000 1600 128000 0 0) ∷ [])) ≡ second)
-    × (in_period (flow_with (changed 4 (BestEffort 3 128000 1600 128000 0 0) ∷ [])) ≡ second)
+    ((flow_with (changed 4 (BestEffort 3 128000 1600 128000 0 0) ∷ [])).peak ≡ charges_of second)
+    × ((flow_with (changed 4 (BestEffort 3 128000 1600 128000 0 0) ∷ [])).sustained ≡ charges_of second)
 others_of_both_begin_both = (refl, refl)
 
 -- a peak rate that is changed and then as before begins a period all the same
 pub a_peak_as_before_begins_a_period :
-    (in_peak_period (flow_with (changed 4 (BestEffort 3 64000 1600 0 0 0) ∷ changed 5 (BestEffort 3 64000 1600 64000 0 0) ∷ []))
-    ≡ second)
-    × (in_period (flow_with (changed 4 (BestEffort 3 64000 1600 0 0 0) ∷ changed 5 (BestEffort 3 64000 1600 64000 0 0) ∷ []))
-    ≡ second_grants)
+    ((flow_with (changed 4 (BestEffort 3 64000 1600 0 0 0) ∷ changed 5 (BestEffort 3 64000 1600 64000 0 0) ∷ [])).peak
+    ≡ charges_of second)
+    × ((flow_with (changed 4 (BestEffort 3 64000 1600 0 0 0) ∷ changed 5 (BestEffort 3 64000 1600 64000 0 0) ∷ [])).sustained
+    ≡ charges_of second_grants)
 a_peak_as_before_begins_a_period = (refl, refl)

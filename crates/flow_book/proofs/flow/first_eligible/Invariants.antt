@@ -1,7 +1,7 @@
 -- The first of those gone through, which keeps its sums.
 use Rattle.std.proofs.Common.{map, take, option_map, option_copied, ◌≤◌}
 use Rattle.std.specs.Prelude.{IfSome}
-use Rattle.flow_book.specs.Bucket.{HaveStartedBy}
+use Rattle.flow_book.specs.Flows.{HaveStartedBy}
 use Rattle.flow_book.specs.Choice.{IsNextOf}
 use Rattle.flow_book.specs.Flows.{granted}
 use Rattle.flow_book.specs.Entry.{live, KeepsSums}

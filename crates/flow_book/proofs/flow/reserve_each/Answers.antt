@@ -16,21 +16,22 @@ loop-place-preserved c =
     let f = c.at_mut-flow.result.now in
     let read = c.at_mut-flow.ensures.value in
     let e = record f { grants = c.with_room-flow.result } in
+    let are = c.with_room-flow.ensures in
     record {
       long = length-set flows i e ∙ c.loop-place.invariant.long;
-      same = map-set_same live flows i e f (rw c.with_room-flow.ensures.0 (ap live read)) ∙ c.loop-place.invariant.same;
-      entries = map-set_same entry_of flows i e f (rw c.with_room-flow.ensures.0 (ap entry_of read))
+      same = map-set_same live flows i e f (rw (are.0, are.1, are.2, are.3) (ap live read)) ∙ c.loop-place.invariant.same;
+      entries = map-set_same entry_of flows i e f (rw are.0 (ap entry_of read))
           ∙ c.loop-place.invariant.entries;
       room = room-more flows i c.args.grants e (omega arith) c.loop-place.invariant.room
-          (omega (arith, c.with_room-flow.ensures.1));
+          (omega (arith, are.4));
       kept = λ sid. omega (
         arith,
         c.loop-place.invariant.kept sid,
         keeps-set flows i e f (ap (λ (g : Flow). g.sid) read)
-            (omega (arith, c.with_room-flow.ensures.1, ap (λ (g : Flow). (room_in g).grants) read)) sid,
+            (omega (arith, are.4, ap (λ (g : Flow). (room_in g).grants) read)) sid,
       );
       sums = λ channel all. copied-set channel flows i e f (omega arith)
           (subst (λ (g : Flow). IsCopy g e) read
-          (record { same = rw c.with_room-flow.ensures.0 refl; granted = refl; turn = refl; limits = refl }))
+          (record { same = rw (are.0, are.1, are.2, are.3) refl; granted = refl; turn = refl; limits = refl }))
           (c.loop-place.invariant.sums channel all);
     }

@@ -3,7 +3,7 @@ use Rattle.std.proofs.Common.{◌≡◌, refl, sym, ◌∙◌, ap, subst, ◌-�
 use Rattle.std.proofs.lemmas.List.{take_all, length-set}
 use Rattle.flow_book.specs.declared.flow.Flow.{Flow}
 use Rattle.flow_book.specs.Entry.{IsCopy}
-use Rattle.flow_book.specs.FlowList.{grants_at, reserved_at}
+use Rattle.flow_book.specs.FlowList.{AreGrantsAt}
 use Rattle.flow_book.specs.Tiers.{limits_in}
 use Rattle.flow_book.proofs.TakenOver.{IsPart, place-within, part-none, part-more, is-here, wants-asked, copied, is-taken}
 use Rattle.flow_book.proofs.taking.take_over.Goals as goal
@@ -41,19 +41,16 @@ loop-waiting-preserved c = record {
       let read = c.at_mut-flow.ensures.value in
       let part = c.loop-waiting.invariant.part channel items can shows in
       let grants = c.grants_at.result in
-      let reserved = c.reserved_at.result in
       let e : c.take_over.new.self ≡ record f {
         turn = w.turn;
         granted = f.asked - w.wants;
         limits = limits_in c.args.tiers.now w;
         grants = grants;
-        reserved = reserved;
       } = c.take_over.ensures in
       let here = is-here channel old items c.args.tiers.now queue can i w lt is new f long read part in
       let copy =
       copied channel old items c.args.tiers.now queue can i w lt is new f long read part grants
-      reserved (c.grants_at.ensures ∙ ap (grants_at w.place) (sym shows))
-      (c.reserved_at.ensures ∙ ap (reserved_at w.place) (sym shows)) in
+      (subst (λ flows. AreGrantsAt w.place flows grants) (sym shows) c.grants_at.ensures) in
       part-more channel old items c.args.tiers.now queue can i w lt is new f long read part c.take_over.new.self
       (subst (λ (h : Flow). IsCopy here.0 h) (sym e) copy);
 }

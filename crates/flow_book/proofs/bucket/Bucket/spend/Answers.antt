@@ -5,11 +5,11 @@ use Rattle.flow_book.proofs.Buckets.{most-limited, spent-stands}
 use Rattle.flow_book.proofs.bucket.Bucket.spend.Goals as goal
 
 pub returns-clause-taken : goal.returns-clause-taken
-returns-clause-taken c = λ channel rate burst grants stands started.
+returns-clause-taken c = λ channel rate burst charges stands started.
     let some : 0 < c.args.self.now.per_slot = rw (← c.self.view_is) (omega arith) in
     let most = most-limited c.args.self.now c.args.slot c.args.bytes (omega (arith, some)) in
     let enough : 1280000 * c.args.bytes ≤ level_of c.args.self.now c.args.slot = omega (arith, most, c.requires.has) in
-    let all = spent-stands channel rate burst c.args.self.now grants stands c.args.slot c.args.bytes started enough in
+    let all = spent-stands channel rate burst c.args.self.now charges stands c.args.slot (1280000 * c.args.bytes) started enough in
     rw (
       c.level.ensures,
       c.from.ensures,

@@ -5,14 +5,14 @@ use Rattle.flow_book.specs.Limits.{most_with, HaveOneMore, StaySettled}
 use Rattle.flow_book.specs.Reserved.{is_under}
 use Rattle.flow_book.specs.Entry.{live}
 use Rattle.flow_book.proofs.Amounts.{keeps-most}
-use Rattle.flow_book.proofs.Periods.{begun-by, limits-more, settled-more}
+use Rattle.flow_book.proofs.Charges.{begun-by, limits-more, settled-more}
 use Rattle.flow_book.proofs.Reservation.{under-reserves}
 use Rattle.flow_book.proofs.flow.Flow.grant.Goals as goal
 
 pub take-is_reserved-requires-clause-begun : goal.take-is_reserved-requires-clause-begun
 take-is_reserved-requires-clause-begun c =
     let keeps = c.requires.sums in
-    begun-by c.args.config.now (live c.args.self.now) c.args.self.now.limits c.args.start keeps.limits keeps.periods
+    begun-by c.args.config.now (live c.args.self.now) c.args.self.now.limits c.args.start keeps.limits keeps.charges
     c.requires.started
 
 pub take-is_reserved-requires-clause-has : goal.take-is_reserved-requires-clause-has
@@ -20,7 +20,7 @@ take-is_reserved-requires-clause-has c =
     let keeps = c.requires.sums in
     let f = c.args.self.now in
     ap (λ n. most_with f.limits c.args.start n c.args.bytes) c.wanted-wanted.ensures.value
-    ∙ keeps-most c.args.config.now (live f) f.limits c.args.start c.args.bytes keeps.limits keeps.periods
+    ∙ keeps-most c.args.config.now (live f) f.limits c.args.start c.args.bytes keeps.limits keeps.charges
     c.requires.started c.requires.keeps
 
 -- it is a reserved grant where the flow is under its reservation
@@ -29,7 +29,7 @@ counted c =
     let f = c.args.self.now in
     let keeps = c.requires.sums in
     c.take-is_reserved.ensures.reserved ∙ ap (reserves f.limits.reserved c.args.start) c.wanted-wanted.ensures.value
-    ∙ sym (under-reserves c.args.config.now (live f) f.limits c.args.start keeps.limits keeps.periods c.requires.started)
+    ∙ sym (under-reserves c.args.config.now (live f) f.limits c.args.start keeps.limits keeps.charges c.requires.started)
 
 pub returns-clause-live : goal.returns-clause-live
 returns-clause-live c = c.note.ensures.live c.args.config.now (counted c)
@@ -44,8 +44,8 @@ returns-clause-sums c =
     let new = c.take-is_reserved.new.self in
     let wanted = c.wanted-wanted.ensures.value in
     c.note.ensures.sums channel (counted c) keeps.asks keeps.granted keeps.turn c.requires.started
-    keeps.periods
-    (limits-more channel (live f) f.limits new start bytes keeps.periods c.requires.started keeps.limits
+    keeps.charges
+    (limits-more channel (live f) f.limits new start bytes keeps.charges c.requires.started keeps.limits
     (subst (λ n. HaveOneMore f.limits new start n bytes) wanted c.take-is_reserved.ensures.taken))
-    (settled-more channel (live f) f.limits new start bytes keeps.periods c.requires.started keeps.limits keeps.settled
+    (settled-more channel (live f) f.limits new start bytes keeps.charges c.requires.started keeps.limits keeps.settled
     (subst (λ n. StaySettled f.limits new start n bytes) wanted c.take-is_reserved.ensures.settled))

@@ -7,7 +7,7 @@ use Rattle.flow_book.specs.Limits.{most_in, most_with}
 use Rattle.flow_book.specs.Reserved.{wanted_of}
 use Rattle.flow_book.specs.Entry.{live}
 use Rattle.flow_book.proofs.Amounts.{eligible-is, limits-within, wanted-whole}
-use Rattle.flow_book.proofs.Periods.{begun-by}
+use Rattle.flow_book.proofs.Charges.{begun-by}
 use Rattle.flow_book.proofs.flow.Flow.is_eligible.Goals as goal
 use Rattle.flow_book.proofs.flow.Flow.is_eligible.Goals.{then-wanted-eq0-via-then-wanted-eq0}
 use Rattle.flow_book.proofs.flow.Flow.is_eligible.Goals.{then-wanted-eq0-via-else-wanted-eq0+then-from-bytes_in}
@@ -31,7 +31,7 @@ returns-then-wanted-eq0 c =
 pub has-requires : goal.has-requires
 has-requires c =
     begun-by c.args.config.now (live c.args.self.now) c.args.self.now.limits c.args.start c.requires.sums.limits
-    c.requires.sums.periods c.requires.started
+    c.requires.sums.charges c.requires.started
 
 pub returns : goal.returns
 returns c =
@@ -47,6 +47,6 @@ returns c =
     let most = most_in limits c.args.start wanted in
     rw c.has.ensures (eligible-is channel f c.args.start c.args.room wanted most
     (sym c.if-not-takes_requests.ensures) value some fits
-    (limits-within channel f limits c.args.start c.args.room wanted most c.requires.sums.limits c.requires.sums.periods
+    (limits-within channel f limits c.args.start c.args.room wanted most c.requires.sums.limits c.requires.sums.charges
     c.requires.started (sym (ap (λ n. most_with limits c.args.start n wanted) (sym value)
     ∙ wanted-whole limits c.args.start wanted))))

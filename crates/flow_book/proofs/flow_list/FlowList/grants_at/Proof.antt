@@ -1,4 +1,4 @@
--- `grants_at` makes the empty struct, with the grants of the flow at the place. Assumes `Logic`.
+-- `grants_at` makes the empty struct, with the grants of the flow at the place and what they charge. Assumes `Logic`.
 use mathlib.Core.Path.{refl}
 use Rattle.std.proofs.Common.{[], ◌∷◌}
 use seplogic.Ra.Ura.{Ura}
@@ -34,7 +34,7 @@ use Rattle.flow_book.proofs.flow_list.FlowList.grants_at.Statement as stated
 use Rattle.flow_book.proofs.flow_list.FlowList.grants_at.Code as code
 use Rattle.flow_book.specs.contracts.flow_list.FlowList as list
 use Rattle.flow_book.specs.contracts.granted.GrantList as grants
-use Rattle.flow_book.specs.FlowList as specs
+use Rattle.flow_book.specs.FlowList.{list_at}
 
 abbrev stayed : Stays (f.ended).signature.params (f.ended).kept
 stayed = (
@@ -57,7 +57,13 @@ module _ {M : Type 1} {𝓤 : Ura M} (𝓛 : Logic 𝓤) (mem : Memory → SProp
     bound = ((κs, qs, tt, a, (before ∷ [], (other ∷ [], tt))), tt)
 
     abbrev made : grants.the_row.Denot
-    made = record { items = specs.grants_at a.1.0.now a.0.now.items; room = 0 }
+    made = record {
+      items = list_at (λ f. f.grants) a.1.0.now a.0.now.items;
+      sustained = list_at (λ f. f.sustained) a.1.0.now a.0.now.items;
+      peak = list_at (λ f. f.peak) a.1.0.now a.0.now.items;
+      reserved = list_at (λ f. f.reserved) a.1.0.now a.0.now.items;
+      room = 0;
+    }
 
     abbrev passed : Fml
     passed = owns (types_at f.signature.params κs) a (before ∷ [], (other ∷ [], tt))
@@ -71,7 +77,7 @@ module _ {M : Type 1} {𝓤 : Ura M} (𝓛 : Logic 𝓤) (mem : Memory → SProp
         returns ! (look_at ! 0 refl) $ free_all ! refl $
         suffices ! _ (ends_at 𝓛 f.ended stayed (f.clauses 𝓛 mem run) bound (vstruct vnil) made (tt, (tt, tt))
         (tt, (tt, tt))) $
-        says ! refl $ pure_i ! (grants.the_row.own_val made (vstruct vnil ∷ []))
+        says ! (refl, refl, refl, refl) $ pure_i ! (grants.the_row.own_val made (vstruct vnil ∷ []))
         ((λ vss. (tt, tt)), tt) ((tt, (refl, tt)), tt) $
         move ! (1 ∷ 2 ∷ 0 ∷ []) $ done !)
 

@@ -1,6 +1,6 @@
--- `and` makes the empty struct, with the grants and the room that its clause names. Assumes `Logic`.
+-- `and` makes the empty struct, with the grants, the charges and the room that its clause names. Assumes `Logic`.
 use mathlib.Core.Path.{refl}
-use Rattle.std.proofs.Common.{[], ◌∷◌, ◌++◌, ◌-◌}
+use Rattle.std.proofs.Common.{[], ◌∷◌, ◌++◌, ◌-◌, if◌then◌else◌}
 use seplogic.Ra.Ura.{Ura}
 use mir.Syntax.{named}
 use mir.Val.{Val, vptr, vstruct, vnil}
@@ -18,6 +18,7 @@ use types.Kit.{‵, raw, ◌$◌, ◌∵◌, !, qed, move, suffices, done}
 use types.Run.{no_more, returns, enter}
 use types.Part.{agg}
 use types.ByLocal.{alloc_all, pass_all, free_all, look_at, sets}
+use denote.Builtin.{bool}
 use denote.Exit.{yes}
 use denote.RattleType.{owns}
 use denote.Ref.{shr_vals, shr_Tells}
@@ -32,59 +33,79 @@ use Rattle.flow_book.specs.contracts.granted.GrantList.and as f
 use Rattle.flow_book.proofs.granted.GrantList.and.Statement as stated
 use Rattle.flow_book.proofs.granted.GrantList.and.Code as code
 use Rattle.flow_book.specs.contracts.granted.GrantList as list
+use Rattle.flow_book.specs.Flows.{charge_of}
 use Rattle.flow_book.specs.contracts.flow.Grant as grant
 
 abbrev stayed : Stays (f.ended).signature.params (f.ended).kept
 stayed = (
   stay_none_ref (0 ∷ []) tt (plain (λ _. list.the_row)) yes,
-  (stay_none_ref (1 ∷ []) tt (plain (λ _. grant.the_row)) yes, tt),
+  (
+    stay_none_ref (1 ∷ []) tt (plain (λ _. grant.the_row)) yes,
+    (stay_none_ref (2 ∷ []) tt (plain (λ _. bool)) yes, tt),
+  ),
 )
 
 module _ {M : Type 1} {𝓤 : Ura M} (𝓛 : Logic 𝓤) (mem : Memory → SProp 𝓤) (run : Routine → Fun 𝓤)
     (C : Calls 𝓤 𝓛.H) (Λ : Loops 𝓤 𝓛.H) where
   open 𝓛 use {H}
 
-  module _ (κs : Lfts 2) (qs : Shares 2) (a : Args f.signature κs) where
+  module _ (κs : Lfts 3) (qs : Shares 3) (a : Args f.signature κs) where
     abbrev before : Val
     before = vptr a.0.ref_ptr.0 a.0.ref_ptr.1
 
     abbrev other : Val
     other = vptr a.1.0.ref_ptr.0 a.1.0.ref_ptr.1
 
+    abbrev third : Val
+    third = vptr a.1.1.0.ref_ptr.0 a.1.1.0.ref_ptr.1
+
     abbrev bound : (walk_of 𝓛 f.ended stayed (f.clauses 𝓛 mem run)).Ghost
-    bound = ((κs, qs, tt, a, (before ∷ [], (other ∷ [], tt))), tt)
+    bound = ((κs, qs, tt, a, (before ∷ [], (other ∷ [], (third ∷ [], tt)))), tt)
 
     abbrev made : list.the_row.Denot
-    made = record { items = a.0.now.items ++ a.1.0.now ∷ []; room = a.0.now.room - 1 }
+    made = record {
+      items = a.0.now.items ++ a.1.0.now ∷ [];
+      sustained = a.0.now.sustained ++ charge_of a.1.0.now ∷ [];
+      peak = a.0.now.peak ++ charge_of a.1.0.now ∷ [];
+      reserved =
+          if a.1.1.0.now then a.0.now.reserved ++ charge_of a.1.0.now ∷ [] else a.0.now.reserved;
+      room = a.0.now.room - 1;
+    }
 
     abbrev passed : Fml
-    passed = owns (types_at f.signature.params κs) a (before ∷ [], (other ∷ [], tt))
+    passed = owns (types_at f.signature.params κs) a (before ∷ [], (other ∷ [], (third ∷ [], tt)))
 
-    walk : ent 𝓤 (on_entry 𝓛 f.signature κs qs a (before ∷ [], (other ∷ [], tt)))
-        (WpFn 𝓤 H C Λ code.function (before ∷ other ∷ [])
+    walk : ent 𝓤 (on_entry 𝓛 f.signature κs qs a (before ∷ [], (other ∷ [], (third ∷ [], tt))))
+        (WpFn 𝓤 H C Λ code.function (before ∷ other ∷ third ∷ [])
         ((walk_of 𝓛 f.ended stayed (f.clauses 𝓛 mem run)).post bound))
     walk =
-        qed 𝓛 (raw (alive 𝓛 f.signature κs qs) ∷ ‵ passed ∷ []) ∵ enter ! C Λ code.function (before ∷ other ∷ []) _ $
-        alloc_all ! (λ l. pass_all ! refl ((tt, tt), ((tt, tt), tt)) $ sets ! (agg ! (no_more !)) refl (tt, tt) $
+        qed 𝓛 (raw (alive 𝓛 f.signature κs qs) ∷ ‵ passed ∷ []) ∵ enter ! C Λ code.function (before ∷ other ∷ third ∷ []) _ $
+        alloc_all ! (λ l. pass_all ! refl ((tt, tt), ((tt, tt), ((tt, tt), tt))) $ sets ! (agg ! (no_more !)) refl (tt, tt) $
         returns ! (look_at ! 0 refl) $ free_all ! refl $
-        suffices ! _ (ends_at 𝓛 f.ended stayed (f.clauses 𝓛 mem run) bound (vstruct vnil) made (tt, (tt, tt))
-        (tt, (tt, tt))) $
-        says ! (refl, refl) $ pure_i ! (list.the_row.own_val made (vstruct vnil ∷ []))
+        suffices ! _ (ends_at 𝓛 f.ended stayed (f.clauses 𝓛 mem run) bound (vstruct vnil) made (tt, (tt, (tt, tt)))
+        (tt, (tt, (tt, tt)))) $
+        says ! (refl, refl, refl, refl, refl) $ pure_i ! (list.the_row.own_val made (vstruct vnil ∷ []))
         ((λ vss. (tt, tt)), tt) ((tt, (refl, tt)), tt) $
         move ! (1 ∷ 2 ∷ 0 ∷ []) $ done !)
 
   walks : Walks 𝓛 f.ended stayed (WpFn 𝓤 H C Λ code.function) (f.clauses 𝓛 mem run)
   walks =
-      walked 𝓛 f.ended stayed (f.clauses 𝓛 mem run) (WpFn 𝓤 H C Λ code.function) (λ κs. (shr_vals, (shr_vals, tt)))
-      (λ κs. (shr_Tells (named 0) κs.0 list.the_row, (shr_Tells (named 1) κs.1.0 grant.the_row, tt)))
+      walked 𝓛 f.ended stayed (f.clauses 𝓛 mem run) (WpFn 𝓤 H C Λ code.function) (λ κs. (shr_vals, (shr_vals, (shr_vals, tt))))
+      (λ κs. (
+        shr_Tells (named 0) κs.0 list.the_row,
+        (shr_Tells (named 1) κs.1.0 grant.the_row, (shr_Tells (named 2) κs.1.1.0 bool, tt)),
+      ))
       (λ κs qs bounds a g are. via 𝓤 _ (fst∗ 𝓤 _ (emp 𝓤)) (walk κs qs a))
 
 meets : {M : Type 1} {𝓤 : Ura M} (𝓛 : Logic 𝓤) (mem : Memory → SProp 𝓤) (run : Routine → Fun 𝓤) (𝓣 : Tables 𝓤 𝓛.H)
     → Meets 𝓛 f.signature (WpFn 𝓤 𝓛.H 𝓣.C 𝓣.Λ code.function) (f.spec 𝓛 mem run)
 meets {𝓤 = 𝓤} 𝓛 mem run 𝓣 =
     walk_Meets 𝓛 f.ended stayed (
-      Goes-none_ref 𝓛 2 (0 ∷ []) tt (plain (λ _. list.the_row)) yes,
-      (Goes-none_ref 𝓛 2 (1 ∷ []) tt (plain (λ _. grant.the_row)) yes, tt),
+      Goes-none_ref 𝓛 3 (0 ∷ []) tt (plain (λ _. list.the_row)) yes,
+      (
+        Goes-none_ref 𝓛 3 (1 ∷ []) tt (plain (λ _. grant.the_row)) yes,
+        (Goes-none_ref 𝓛 3 (2 ∷ []) tt (plain (λ _. bool)) yes, tt),
+      ),
     ) (f.clauses 𝓛 mem run) (WpFn 𝓤 𝓛.H 𝓣.C 𝓣.Λ code.function)
     (WpFn-mono 𝓤 𝓛.H 𝓛.laws 𝓣 code.function) (walks 𝓛 mem run 𝓣.C 𝓣.Λ)
 

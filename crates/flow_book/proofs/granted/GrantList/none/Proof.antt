@@ -1,4 +1,4 @@
--- `none` makes the empty struct, with no grants and no room. Assumes `Logic`.
+-- `none` makes the empty struct, with no grants, which charge nothing, and no room. Assumes `Logic`.
 use mathlib.Core.Path.{refl}
 use mathlib.Core.List.{[], ◌∷◌}
 use seplogic.Ra.Ura.{Ura}
@@ -38,7 +38,7 @@ module _ {M : Type 1} {𝓤 : Ura M} (𝓛 : Logic 𝓤) (mem : Memory → SProp
   bound = ((tt, tt, tt, tt, tt), tt)
 
   abbrev made : list.the_row.Denot
-  made = record { items = []; room = 0 }
+  made = record { items = []; sustained = []; peak = []; reserved = []; room = 0 }
 
   walk : ent 𝓤 (on_entry 𝓛 f.signature tt tt tt tt)
       (WpFn 𝓤 H C Λ code.function [] ((walk_of 𝓛 f.ended stayed (f.clauses 𝓛 mem run)).post bound))
@@ -47,7 +47,7 @@ module _ {M : Type 1} {𝓤 : Ura M} (𝓛 : Logic 𝓤) (mem : Memory → SProp
       alloc_all ! (λ l. pass_all ! refl tt $ sets ! (agg ! (no_more !)) refl (tt, tt) $
       returns ! (look_at ! 0 refl) $ free_all ! refl $
       suffices ! _ (ends_at 𝓛 f.ended stayed (f.clauses 𝓛 mem run) bound (vstruct vnil) made tt tt) $
-      says ! refl $ pure_i ! (list.the_row.own_val made (vstruct vnil ∷ []))
+      says ! (refl, refl, refl, refl) $ pure_i ! (list.the_row.own_val made (vstruct vnil ∷ []))
       ((λ vss. (tt, tt)), tt) ((tt, (refl, tt)), tt) $
       move ! (1 ∷ 2 ∷ 0 ∷ []) $ done !)
 
