@@ -28,6 +28,7 @@ pub mod Profile
 pub mod Queues
 pub mod Removal
 pub mod Reservation
+pub mod Ceilings
 pub mod Rooms
 pub mod RowsBucket
 pub mod RowsCeiling
@@ -36,6 +37,7 @@ pub mod RowsChoice
 pub mod RowsPeak
 pub mod RowsReserved
 pub mod RowsStates
+pub mod RowsStanding
 pub mod NextServed
 pub mod Numbered
 pub mod Numbers

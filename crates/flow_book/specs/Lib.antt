@@ -10,6 +10,7 @@ pub mod Lending
 pub mod FlowList
 pub mod Ceiling
 pub mod Reserved
+pub mod Standing
 pub mod Bucket
 pub mod Limits
 pub mod Choice

@@ -6,7 +6,8 @@ ghost use Rattle.std.specs.List.{AllByRecursion, position_or_len};
 ghost use Rattle.minislots.specs.Units.{slots_for};
 ghost use Rattle.sched_calls.specs.FlowSpec.{takes_requests};
 ghost use Rattle.flow_book.specs.Flows.{flow_of, granted, outstanding};
-ghost use Rattle.flow_book.specs.Reserved.{waits_under, with_grant};
+ghost use Rattle.flow_book.specs.Reserved.{with_grant};
+ghost use Rattle.flow_book.specs.Standing.{waits_so};
 ghost use Rattle.flow_book.specs.Choice.{MayGrant, IsMost, IsAmount, IsNextSid};
 ghost use Rattle.flow_book.specs.Choice.{HasStartedBy};
 ghost use Rattle.flow_book.specs.Entry.{live, IsSoundFlow, IsBook, KeepsSums};
@@ -23,7 +24,7 @@ use crate::overlay::Overlay;
 use crate::queue::{copy_of, follow, leave, make_room, make_way, queue_of, take_or_make};
 use crate::queue_list::Queue;
 use crate::shown::Shown;
-use crate::under::under_at;
+use crate::standing::{Standing, who_waits};
 use crate::waiting::Waiting;
 use minislots::Checked;
 use sched_calls::FlowSpec;
@@ -270,15 +271,15 @@ impl Book {
         }
     }
 
-    /// The SIDs of the flows that wait for bytes at minislot `start`, each under its reservation, in order of SID. All grants
-    /// start at or before `start`.
-    pub fn under(&self, start: u64) -> Result<Vec<u16>, AllocError>
+    /// The SIDs of the flows that wait for bytes at minislot `start` and stand so to their rates, in order of SID. All
+    /// grants start at or before `start`.
+    pub fn who_waits(&self, standing: Standing, start: u64) -> Result<Vec<u16>, AllocError>
         requires { AllByRecursion (HasStartedBy start) self.now.flows }
         ensures { IfOk result (λ sids. sids.items
-            ≡ map (λ f. f.sid) (filter (waits_under self.now.config start) self.now.flows)) }
+            ≡ map (λ f. f.sid) (filter (waits_so standing self.now.config start) self.now.flows)) }
     {
         let config = self.channel.config();
-        under_at(self.flows.allocator(), &self.flows, config, start)
+        who_waits(self.flows.allocator(), &self.flows, config, standing, start)
     }
 
     /// Makes room for `grants` more grants of each live flow, so that as many calls of [`Book::grant`]

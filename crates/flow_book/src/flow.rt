@@ -7,7 +7,8 @@ ghost use Rattle.std.specs.List.{AllByRecursion};
 ghost use Rattle.minislots.specs.declared.config.Config.{Config};
 ghost use Rattle.minislots.specs.Config.{IsLawful};
 ghost use Rattle.flow_book.specs.Flows.{granted, outstanding};
-ghost use Rattle.flow_book.specs.Reserved.{wanted_of, is_under, waits_under, rank_at, with_grant};
+ghost use Rattle.flow_book.specs.Reserved.{wanted_of, is_under, rank_at, with_grant};
+ghost use Rattle.flow_book.specs.Standing.{has_room, waits_so};
 ghost use Rattle.flow_book.specs.Choice.{is_before, IsEligible, IsMost, KeepsWith};
 ghost use Rattle.flow_book.specs.Choice.{IsNextOf, HasStartedBy, last_start};
 ghost use Rattle.sched_calls.specs.FlowSpec.{takes_requests, rate_of, burst_of, peak_of, reserved_of};
@@ -28,6 +29,7 @@ use crate::flows::Flows;
 use crate::granted::GrantList;
 use crate::limits::{Limits, peak_of, reserved_of, sustained_of};
 use crate::period::Period;
+use crate::standing::Standing;
 use crate::tiers::Tier;
 use crate::waiting::Waiting;
 use minislots::Checked;
@@ -264,14 +266,27 @@ impl Flow {
         self.limits.reserved.reserves(start, self.wanted(config))
     }
 
-    // Whether the flow waits for bytes at this minislot, under its reservation.
-    pub(crate) fn waits_under(&self, config: &Checked, start: u64) -> bool
+    // Whether both ceilings of the flow have room at this minislot for what it wants at least.
+    fn has_room(&self, config: &Checked, start: u64) -> bool
         requires sums { KeepsSums config.now self.now }
         requires within { granted (live self.now) ≤ self.now.asked }
         requires started { HaveStartedBy start self.now.grants.items }
-        ensures { result ≡ waits_under config.now start (live self.now) }
+        ensures { result ≡ has_room config.now start (live self.now) }
     {
-        self.waits() && self.is_under(config, start)
+        self.limits.has(start, self.wanted(config))
+    }
+
+    // Whether the flow waits for bytes at this minislot and stands so.
+    pub(crate) fn waits_so(&self, config: &Checked, standing: Standing, start: u64) -> bool
+        requires sums { KeepsSums config.now self.now }
+        requires within { granted (live self.now) ≤ self.now.asked }
+        requires started { HaveStartedBy start self.now.grants.items }
+        ensures { result ≡ waits_so standing config.now start (live self.now) }
+    {
+        match standing {
+            Standing::UnderReservation => self.waits() && self.is_under(config, start),
+            Standing::AtCeiling => self.waits() && !self.has_room(config, start),
+        }
     }
 
     // The flow's turn at this minislot, where it is of a polled flow's rank under its reservation.

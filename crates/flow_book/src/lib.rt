@@ -20,10 +20,10 @@ mod queue;
 mod queue_list;
 mod shown;
 mod soonest;
+mod standing;
 mod state;
 mod taking;
 mod tiers;
-mod under;
 mod waiting;
 
 pub use batches::Batches;
@@ -33,3 +33,4 @@ pub use flow::{Grant, Served};
 pub use overlay::Overlay;
 pub use sched_calls::{FlowFault, FlowSpec, MAX_GRANTS};
 pub use shown::Shown;
+pub use standing::Standing;

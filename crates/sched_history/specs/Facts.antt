@@ -15,7 +15,9 @@ use Rattle.flow_book.specs.Ceiling.{KeepsCeiling}
 use Rattle.periodic.specs.Placement.{Placed, phase_of, offset_of}
 use Rattle.sched_calls.specs.declared.frame_map.FrameMap.{FrameMap}
 use Rattle.flow_book.specs.Choice.{IsEligible}
-use Rattle.flow_book.specs.Reserved.{is_under, rank_at, waits_under}
+use Rattle.flow_book.specs.Reserved.{is_under, rank_at}
+use Rattle.flow_book.specs.Standing.{waits_so}
+use Rattle.flow_book.specs.declared.standing.Standing.{Standing}
 use Rattle.map_build.specs.declared.purpose.Allocation.{Allocation}
 use Rattle.map_build.specs.declared.purpose.Purpose.{Purpose}
 use Rattle.map_build.specs.declared.purpose.Purpose.TheVariants.{DataGrant, Idle}
@@ -55,14 +57,14 @@ IsWithinPeak c f = KeepsCeiling c (peak_of f.spec) PEAK_BURST (in_peak_period f)
 abbrev pub IsWithinReserved : Config → LiveFlow → Type 0
 IsWithinReserved c f = KeepsCeiling c (reserved_of f.spec) (reserved_burst_of f.spec) (in_reserved_period f)
 
--- the SIDs of the flows that wait for bytes where the next frame starts, each under its reservation, in order
-abbrev pub under_next : Config → List Entry → List ℕ
-under_next c h = map (λ f. f.sid) (filter (waits_under c (next_after c h)) (flows_of c h))
+-- the SIDs of the flows that wait for bytes where the next frame starts and stand so to their rates, in order
+abbrev pub waits_next : Standing → Config → List Entry → List ℕ
+waits_next standing c h = map (λ f. f.sid) (filter (waits_so standing c (next_after c h)) (flows_of c h))
 
 -- the same where the MAP of a reply starts that follows a history: none where it settles
-abbrev pub under_by : Config → List Entry → Reply → List ℕ
-under_by c h (Built m) = if settles_after c h then [] else under_next c h
-under_by c h reply = []
+abbrev pub waits_by : Standing → Config → List Entry → Reply → List ℕ
+waits_by standing c h (Built m) = if settles_after c h then [] else waits_next standing c h
+waits_by standing c h reply = []
 
 -- each element begins before the next
 abbrev pub OffsetsAscend : List Element → Type 0

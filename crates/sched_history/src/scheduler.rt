@@ -24,9 +24,9 @@ mod refusing;
 mod reserves;
 mod resuming;
 mod settling;
+mod standing;
 mod state;
 mod states;
-mod under;
 
 use crate::fault::PlanFault;
 use crate::ledger::Ledger;

@@ -5,7 +5,7 @@ ghost use Rattle.std.specs.Prelude.{ℕ, slice_index, IfOk, IfErr, OnOk, OnErr, 
 ghost use Rattle.sched_calls.specs.declared.call.TheConstants.{MAX_RESERVES};
 ghost use Rattle.sched_calls.specs.declared.reply.TheConstants.{MAX_WHOLE_HISTORY};
 ghost use Rattle.sched_history.specs.ChannelState.{state_of};
-ghost use Rattle.sched_history.specs.Facts.{under_by};
+ghost use Rattle.sched_history.specs.Facts.{waits_by};
 ghost use Rattle.sched_history.specs.History.{IsStep, IsLegal};
 ghost use Rattle.sched_calls.specs.Reply.{IsEncodable};
 ghost use Rattle.sched_history.specs.Machine.{MayLackMemory};
@@ -17,6 +17,7 @@ use super::sameness::is_refused;
 use crate::fault::JudgeFault;
 use crate::ledger::Ledger;
 use crate::scheduler::{Present, Scheduler, State};
+use flow_book::Standing;
 use map_build::Met;
 use minislots::Checked;
 use sched_calls::{Call, ChannelState, Entry, MAX_WHOLE_HISTORY, Reply};
@@ -108,12 +109,12 @@ impl Auditor {
         present.met(self.alloc, entry)
     }
 
-    /// The SIDs of the flows that wait for bytes under their minimum reserved rates where the MAP of an entry starts, in
+    /// The SIDs of the flows that wait for bytes where the MAP of an entry starts and stand so to their rates there, in
     /// order, where its reply may follow: none where it has no MAP, or one that settles. It is asked before
     /// [`Auditor::judge`] takes the entry.
-    pub fn under(&self, entry: &Entry) -> Result<Vec<u16>, AllocError>
-        ensures under { IfOk result (λ sids. IsStep self.now.config self.now.history entry.now.call entry.now.reply
-            → sids.items ≡ under_by self.now.config self.now.history entry.now.reply) }
+    pub fn who_waits(&self, entry: &Entry, standing: Standing) -> Result<Vec<u16>, AllocError>
+        ensures waits { IfOk result (λ sids. IsStep self.now.config self.now.history entry.now.call entry.now.reply
+            → sids.items ≡ waits_by standing self.now.config self.now.history entry.now.reply) }
         ensures memory { OnErr result
             (MayLackMemory self.now.config self.now.history entry.now.call) }
     {
@@ -121,7 +122,7 @@ impl Auditor {
             state: &self.state,
             ledger: &self.ledger,
         };
-        present.under(self.alloc, entry)
+        present.who_waits(self.alloc, entry, standing)
     }
 
     /// How many Reserves are open, that is neither met nor lapsed, after the entries that were taken.
