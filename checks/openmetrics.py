@@ -124,6 +124,8 @@ class Wanted:
             self.life(place, life)
             if more["oldest"] is not None:
                 self.add_time("flow_oldest_request_seconds", more["oldest"], life=place, sid=life["sid"])
+            if more["held"] is not None:
+                self.add("flow_at_ceiling_frames_total", more["held"], life=place, sid=life["sid"])
 
     def add(self, name, value, **labels):
         self.samples[f"mapsched_{name}", frozenset((key, str(it)) for key, it in labels.items())] = value

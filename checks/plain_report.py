@@ -10,6 +10,8 @@ from plain_bursts import Bursts
 
 REQUEST, NULL = 1, 7
 ALL_MODEMS = 0x3FFF
+# The burst of each peak rate, in bytes.
+PEAK_BURST = 1522
 CALLS = ("admit", "ask", "build", "header", "heard", "remove", "reserve", "skip", "status")
 # Of these a report tells how many there were where there was one.
 MORE_CALLS = ("change", "replace", "rest", "wake")
@@ -221,6 +223,13 @@ def reservation_of(flow):
     return [flow.get(name, 0) if flow["kind"] == "best_effort" else 0 for name in ("reserved", "reserved_burst")]
 
 
+def ceilings_of(flow):
+    """The maximum sustained rate of a flow and its burst, and its peak rate with that of one: a rate of 0 is none."""
+    if flow["kind"] == "unsolicited":
+        return (0, 0), (0, 0)
+    return (flow["rate"], flow["burst"]), (flow.get("peak", 0), PEAK_BURST)
+
+
 class Request:
     """A request at this place of a life: its delay, or None where it was not served, and whether it was replaced. All
     that the flow had asked with it has to be granted before the next request that supersedes it."""
@@ -233,38 +242,73 @@ class Request:
         self.is_replaced = self.delay is None and later is not None
 
 
-class Reservation:
-    """The minimum reserved rate of a flow through its life: the bytes that the flow waits for, the data grants under it
-    since it has its numbers, as (start, bytes), and at how many starts of MAPs that are told of the flow waited under
-    it."""
+class Waiting:
+    """A flow through its life: the bytes that it waits for, and at how many starts of MAPs that are told of it waited for
+    some and stood so to its rates."""
 
     def __init__(self, life):
-        self.config, self.flow, self.waits, self.grants, self.under = life.config, life.first, 0, [], 0
+        self.config, self.flow, self.waits, self.times = life.config, life.first, 0, 0
         for place, entry in enumerate(life.since):
             self.waits = life.asks[place] + (0 if place in life.replacements else self.waits)
             if place in life.changes:
                 self.change(entry["call"]["flow"])
+                self.flow = entry["call"]["flow"]
             if entry["reply"]["kind"] == "map":
                 self.map(entry["reply"], life.data_in(place), place >= life.passed)
 
+    def map(self, reply, grants, is_told):
+        if is_told and self.waits > 0 and not settles(reply) and self.is_so(reply["start"]):
+            self.times += 1
+        for start, count in grants:
+            self.grant(start, count)
+            self.waits -= count
+
+    def wanted(self):
+        return min(self.waits, self.config["quantum"])
+
+
+class Reservation(Waiting):
+    """Under its minimum reserved rate, with the data grants under it since the flow has its numbers, as (start, bytes)."""
+
+    def __init__(self, life):
+        self.grants = []
+        super().__init__(life)
+
     def change(self, flow):
-        before, self.flow = reservation_of(self.flow), flow
-        if reservation_of(flow) != before:
+        if reservation_of(flow) != reservation_of(self.flow):
             self.grants = []
 
-    def is_under(self, start):
+    def is_so(self, start):
         """Whether the bytes that the flow wants at least keep its reservation, behind the grants under it."""
         rate, burst = reservation_of(self.flow)
-        wanted = min(self.waits, self.config["quantum"])
-        return rate > 0 and keeps(self.config["ticks"], rate, burst, [*self.grants, (start, wanted)])
+        return rate > 0 and keeps(self.config["ticks"], rate, burst, [*self.grants, (start, self.wanted())])
 
-    def map(self, reply, grants, is_told):
-        if is_told and self.waits > 0 and not settles(reply) and self.is_under(reply["start"]):
-            self.under += 1
-        for start, count in grants:
-            if self.is_under(start):
-                self.grants.append((start, count))
-            self.waits -= count
+    def grant(self, start, count):
+        if self.is_so(start):
+            self.grants.append((start, count))
+
+
+class Ceilings(Waiting):
+    """At its rate or its peak, with the data grants since the flow has the numbers of each."""
+
+    def __init__(self, life):
+        self.grants = [[], []]
+        super().__init__(life)
+
+    def change(self, flow):
+        for at, (old, new) in enumerate(zip(ceilings_of(self.flow), ceilings_of(flow))):
+            if old != new:
+                self.grants[at] = []
+
+    def is_so(self, start):
+        """Whether one of them has no room for the bytes that the flow wants at least."""
+        wanted = (start, self.wanted())
+        return any(not keeps(self.config["ticks"], rate, burst, [*grants, wanted])
+                   for (rate, burst), grants in zip(ceilings_of(self.flow), self.grants))
+
+    def grant(self, start, count):
+        for grants in self.grants:
+            grants.append((start, count))
 
 
 class Life:
@@ -350,6 +394,11 @@ class Life:
         heard = [request.heard for request in self.requests if request.delay is None and not request.is_replaced]
         return None if self.ended or not heard else max(self.to_slot - min(heard), 0)
 
+    def held(self):
+        """At how many starts of MAPs it waited at a ceiling, where it has one."""
+        has_one = any(rate > 0 for rate, _ in ceilings_of(self.flow))
+        return Ceilings(self).times if has_one else None
+
     def told(self):
         delays, replaced = self.delays(), sum(1 for request in self.requests if request.is_replaced)
         left = len(self.requests) - len(delays) - replaced
@@ -364,7 +413,7 @@ class Life:
         if self.carried() > 0:
             told["carried"] = self.carried()
         if reservation_of(self.flow)[0] > 0:
-            told["under"] = Reservation(self).under
+            told["under"] = Reservation(self).times
         return told
 
 
@@ -429,7 +478,7 @@ def refused_sids(history):
 def metrics_alone(history):
     """The numbers that a report tells as metrics alone."""
     return {"refused_sids": refused_sids(history),
-            "lives": [{"oldest": life.oldest()} for life in lives_of(history)]}
+            "lives": [{"oldest": life.oldest(), "held": life.held()} for life in lives_of(history)]}
 
 
 def report(history):

@@ -1,6 +1,7 @@
 pub mod Cells
 pub mod Gathered
 pub mod Reserved
+pub mod Held
 pub mod Report
 pub mod Columns
 pub mod Tables

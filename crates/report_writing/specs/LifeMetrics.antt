@@ -9,9 +9,10 @@ use Rattle.report_writing.specs.declared.metrics.life.LifeCount.TheVariants.{Ask
 use Rattle.report_writing.specs.declared.metrics.life.LifeCount.TheVariants.{Served, Waiting, Dropped, Replaced}
 use Rattle.report_writing.specs.declared.metrics.life.LifeMetric.{LifeMetric}
 use Rattle.report_writing.specs.declared.metrics.life.LifeMetric.TheVariants.{Info, Start, End, Count, Oldest, Under}
-use Rattle.report_writing.specs.declared.metrics.life.LifeMetric.TheVariants.{Delay}
+use Rattle.report_writing.specs.declared.metrics.life.LifeMetric.TheVariants.{Held, Delay}
 use Rattle.report_writing.specs.Report.{kind_name, rank_of}
 use Rattle.report_writing.specs.Reserved.{has_reservation, under_of}
+use Rattle.report_writing.specs.Held.{has_ceiling, held_of}
 use Rattle.report_writing.specs.Samples.{heading, label, labels_of, count_sample, count_sample_or_none, time_sample}
 use Rattle.report_writing.specs.Samples.{time_sample_or_none, delay_samples}
 
@@ -65,6 +66,8 @@ life_samples ticks Oldest place n =
 life_samples ticks Under place n =
     count_sample_or_none (codes "mapsched_flow_under_reservation_frames_total") (labels_of (Life place n.sid))
     (under_of n)
+life_samples ticks Held place n =
+    count_sample_or_none (codes "mapsched_flow_at_ceiling_frames_total") (labels_of (Life place n.sid)) (held_of n)
 life_samples ticks Delay place n =
     delay_samples ticks (codes "mapsched_flow_delay_seconds") (labels_of (Life place n.sid))
     n.sums.delays.greatest n.sums.delays.least n.middle n.p99
@@ -138,6 +141,15 @@ life_under_metrics ticks lives =
     ++ lives_samples ticks Under lives
     else []
 
+-- and at how many at their ceilings, where one has a ceiling
+unfoldable pub life_held_metrics : ℕ → List LifeNumbers → List ℕ
+life_held_metrics ticks lives =
+    if list_any has_ceiling lives then
+    heading (codes "mapsched_flow_at_ceiling_frames") (codes "counter") Pieces
+    (codes "Frames at whose start the flow waited while its rate or its peak had no room.")
+    ++ lives_samples ticks Held lives
+    else []
+
 -- how long those took that were served
 unfoldable pub life_delay_metrics : ℕ → List LifeNumbers → List ℕ
 life_delay_metrics ticks lives =
@@ -150,4 +162,4 @@ unfoldable pub lives_metrics : ℕ → List LifeNumbers → List ℕ
 lives_metrics ticks lives =
     life_span_metrics ticks lives ++ (life_byte_metrics ticks lives ++ (life_request_metrics ticks lives
     ++ (life_oldest_metrics ticks lives ++ (life_lost_metrics ticks lives ++ (life_under_metrics ticks lives
-    ++ life_delay_metrics ticks lives)))))
+    ++ (life_held_metrics ticks lives ++ life_delay_metrics ticks lives))))))

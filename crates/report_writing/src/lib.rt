@@ -4,6 +4,7 @@
 
 mod cell;
 mod gathered;
+mod held;
 mod life;
 mod members;
 mod metrics;

@@ -26,8 +26,9 @@ pub mod Renewed
 pub mod Naming
 pub mod GrantedLaws
 pub mod LiveNow
-pub mod UnderLaws
-pub mod UnderSteps
+pub mod WaitsLaws
+pub mod WaitsSteps
+pub mod Tallied
 pub mod RanksTold
 pub mod RowsPercentiles
 pub mod RowsSaid

@@ -1,4 +1,4 @@
--- An entry whose MAP may raise or lower the extremes of what is told of the history before it.
+-- What a MAP tells of the Reserves that lapse before it, and of itself.
 use Rattle.std.proofs.Common.{◌≡◌, ℕ, ◌+◌, ◌<◌, ◌≤◌, Bool, List, [], ◌∷◌, ◌++◌, length, take, drop, None}
 use Rattle.std.proofs.Common.{refl, sym, ap, subst, arith}
 use Rattle.std.proofs.lemmas.List.{take-append-drop}
@@ -18,32 +18,6 @@ use Rattle.sched_history.proofs.steps.LegalHistories.{IsNextMap-from_step}
 use Rattle.frame_picture.specs.Frames.{TellsUnsolicited}
 use Rattle.sched_report.specs.declared.extremes.Extremes.{Extremes}
 use Rattle.sched_report.specs.Extremes.{AreExtremes, TellsProgress, IsWatched}
-
-module _ (c k : Config) (p : ℕ) (h : List Entry) (e : Entry) (same : c ≡ k) where
-  abbrev whole : take p h ++ drop p h ≡ h
-  whole = take-append-drop p h
-
-  at_whole : (P : Config → List Entry → Type 0) → P k h → P c (take p h ++ drop p h)
-  at_whole P is = subst (λ (es : List Entry). P c es) (sym whole) (subst (λ (d : Config). P d h) (sym same) is)
-
-  -- what is known of the auditor's history is known of its two parts
-  pub watched : (x : Extremes) (flows : List Bool) (met : List Met) (progress : List ℕ) (reserves left : ℕ)
-      → IsLawful c → IsLegal c h → IsStep k h e.call e.reply → length h < MAX_WHOLE_HISTORY
-      → AreExtremes c (take p h) (drop p h) x → TellsUnsolicited flows h → met ≡ met_after k h e.reply
-      → TellsProgress k h progress → reserves ≡ length (reserves_of k h) → left ≡ length (reserves_of k (h ++ e ∷ []))
-      → IsWatched c (take p h) (drop p h) x flows met progress reserves left e
-  watched x flows met progress reserves left lawful legal step short are told meets heard before after = record {
-    lawful = lawful;
-    legal = subst (IsLegal c) (sym whole) legal;
-    step = at_whole (λ d es. IsStep d es e.call e.reply) step;
-    short = omega (arith, short, ap (λ (es : List Entry). length es) whole);
-    watched = are;
-    told = subst (TellsUnsolicited flows) (sym whole) told;
-    meets = at_whole (λ d es. met ≡ met_after d es e.reply) meets;
-    heard = at_whole (λ d es. TellsProgress d es progress) heard;
-    open_before = at_whole (λ d es. reserves ≡ length (reserves_of d es)) before;
-    open_after = at_whole (λ d es. left ≡ length (reserves_of d (es ++ e ∷ []))) after;
-  }
 
 -- a reply that has no MAP
 pub no_map : (reply : Reply) → ((m : FrameMap) → reply ≡ replies.Built m → ⊥) → map_by reply ≡ None

@@ -11,7 +11,7 @@ pub mod Spread
 pub mod Steps
 pub mod Served
 pub mod Lives
-pub mod UnderIn
+pub mod WaitsIn
 pub mod Said
 pub mod Oldest
 pub mod Ranks
@@ -21,6 +21,7 @@ pub mod Named
 pub mod Live
 pub mod Granted
 pub mod ToldLives
-pub mod Under
+pub mod Waits
+pub mod Outlook
 pub mod Window
 pub mod Reported

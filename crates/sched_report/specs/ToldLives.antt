@@ -24,7 +24,7 @@ use Rattle.sched_report.specs.Said.{outstanding_in}
 use Rattle.sched_report.specs.Said.{waiting_in, dropped_in}
 use Rattle.sched_report.specs.Oldest.{oldest_in}
 use Rattle.sched_report.specs.Told.{IsLifeOf, MayNote, Meets}
-use Rattle.sched_report.specs.UnderIn.{under_in}
+use Rattle.sched_report.specs.WaitsIn.{under_in, held_in}
 
 -- What is told is of these lives, each at its place
 pub record AreLives (c : Config) (ts : List LifeTally) (lives : List PastLife) : Type 0 where
@@ -69,7 +69,8 @@ pub record MayFollow (c : Config) (passed : ℕ) (h : List Entry) (ts : List Lif
 -- These are the numbers of a life: where the next frame started at its admission or where what is told begins, and where
 -- it started at its end or starts now, whether it ended, what was outstanding when that began, what it asked and was
 -- granted, its requests that were not served, for how long the first of those that wait has waited, the delays that 50
--- and 99 in a hundred of those that were served do not exceed, and how often it waited under its reservation
+-- and 99 in a hundred of those that were served do not exceed, and how often it waited under its reservation and at a
+-- ceiling
 pub record AreLifeNumbers (c : Config) (n : LifeNumbers) (life : PastLife) : Type 0 where
   pub sid : n.sid ≡ life.sid
   pub spec : n.spec ≡ spec_of life
@@ -87,3 +88,4 @@ pub record AreLifeNumbers (c : Config) (n : LifeNumbers) (life : PastLife) : Typ
   pub middle : TellsPercentile 50 (delays_in c life) n.middle
   pub p99 : TellsPercentile 99 (delays_in c life) n.p99
   pub under : n.under ≡ under_in c life
+  pub held : n.held ≡ held_in c life

@@ -8,6 +8,7 @@ mod lags;
 mod life;
 mod lives;
 mod named;
+mod outlook;
 mod percentiles;
 mod ranks;
 mod ranks_told;
@@ -17,8 +18,9 @@ mod requests;
 mod service;
 mod slots;
 mod spread;
+mod tally;
 mod totals;
-mod under;
+mod waits;
 
 pub use calls::Calls;
 pub use extremes::Extremes;

@@ -24,7 +24,7 @@ ghost use Rattle.sched_report.specs.Steps.{CountsUpto};
 ghost use Rattle.sched_report.specs.Said.{is_grant_to, unsolicited_at};
 ghost use Rattle.sched_report.specs.Told.{IsLifeOf, MayNote, MayGrantAll, HasRoomFor};
 ghost use Rattle.sched_report.specs.ToldLives.{AreLifeNumbers};
-ghost use Rattle.sched_report.specs.UnderIn.{under_in};
+ghost use Rattle.sched_report.specs.WaitsIn.{under_in, held_in};
 
 use crate::percentiles::percentile;
 use crate::requests::{note_request, request_of};
@@ -80,6 +80,9 @@ pub struct LifeNumbers {
     pub p99: Option<u64>,
     /// The MAPs of its life, but those that settle, at whose starts it waited for bytes under its minimum reserved rate.
     pub under: u64,
+    /// Those at whose starts it waited for bytes while its rate or its peak had no room for the quantum, or for all
+    /// that it waited for where that was less.
+    pub held: u64,
 }
 
 // Where what is told of a life begins: where the next frame started there, the bytes that its data grants had up to it,
@@ -155,12 +158,12 @@ impl LifeTally {
         self.beginning.is_live
     }
 
-    // Its numbers, where the next frame starts there, and so often it waited under its reservation.
-    pub(crate) fn numbers(&self, next: u64, under: u64) -> LifeNumbers
+    // Its numbers, where the next frame starts there, and so often it waited under its reservation and at a ceiling.
+    pub(crate) fn numbers(&self, next: u64, under: u64, held: u64) -> LifeNumbers
         requires { (c : Config) × (life : PastLife) × IsLifeOf c self.now life }
         ensures told { (c : Config) (life : PastLife) → IsLifeOf c self.now life
             → (life.ended ≡ false → next ≡ next_after c (life.upto ++ life.since))
-            → under ≡ under_in c life → AreLifeNumbers c result life }
+            → under ≡ under_in c life → held ≡ held_in c life → AreLifeNumbers c result life }
         ensures few { result.granted < 2 ^ 90 }
     {
         let sums = self.sums();
@@ -183,6 +186,7 @@ impl LifeTally {
             middle: percentile(one, None, 50, served, sums.delays.greatest),
             p99: percentile(one, None, 99, served, sums.delays.greatest),
             under,
+            held,
         }
     }
 

@@ -12,22 +12,16 @@ ghost use Rattle.sched_report.specs.Lives.{PastLife, is_told};
 ghost use Rattle.sched_report.specs.Ranks.{lives_of_rank, AreRankNumbers};
 ghost use Rattle.sched_report.specs.ToldLives.{MayLackReportMemory, AreLifeNumbers};
 
-use crate::calls::{REFUSALS, count_refusal};
 use crate::extremes::Extremes;
-use crate::life::{LifeNumbers, LifeTally};
-use crate::lives::{follow, renew_each, reserve_for};
+use crate::life::LifeNumbers;
+use crate::outlook::outlook_of;
 use crate::ranks::{RankNumbers, numbers_of};
-use crate::refused_sids::count_refused_sid;
+use crate::tally::Tally;
 use crate::totals::Totals;
-use crate::under::{count_under, renew_counts, reserve_count};
-use frame_picture::{Flows, no_flows, note};
 use minislots::Checked;
 use sched_history::{Auditor, Entry, JudgeFault, MAX_WHOLE_HISTORY};
 use std::alloc::{AllocError, Global};
 use std::marker::Model;
-
-// How many SIDs there are.
-const SIDS: usize = 65536;
 
 /// Takes a history entry by entry, and tells its numbers. Each entry is judged as by an [`Auditor`], and is counted
 /// where its reply may follow those before it. No entry is kept, so however many are taken, the memory is that of the
@@ -36,25 +30,8 @@ const SIDS: usize = 65536;
 /// [`Reporter::renew`] on it tells of what follows alone.
 #[derive(Drop)]
 pub struct Reporter {
-    config: Checked,
     auditor: Auditor,
-    alloc: Global,
-    // Where the next frame starts.
-    next: u64,
-    // Which flows are unsolicited after the entries that were taken: on the heap, for the stack's sake.
-    flows: Box<Flows>,
-    totals: Totals,
-    extremes: Extremes,
-    refused: [u64; REFUSALS],
-    lives: Vec<LifeTally>,
-    // Where the life that goes on under each SID stands, which alone an entry of the SID is shown to.
-    places: Vec<usize>,
-    // How often each life waited under its minimum reserved rate, at the places of the lives.
-    under: Vec<u64>,
-    // How many refused calls name each SID.
-    refused_sids: Vec<u64>,
-    // How many entries came before what is told.
-    passed: u64,
+    tally: Tally,
 }
 
 impl Model for Reporter {
@@ -65,36 +42,22 @@ impl Model for Reporter {
     ghost use Rattle.sched_report.specs.Reported.{IsReport};
 
     ghost view = { λ r. record {
-      config = r.auditor.config;
+      config = r.tally.config;
       history = r.auditor.history;
-      passed = r.passed;
+      passed = r.tally.passed;
     } };
 
-    ghost invariant = { λ r.
-        IsReport r.config r.auditor r.passed r.flows.value r.totals r.extremes r.refused r.next
-        r.lives.items r.places.items r.under.items r.refused_sids.items };
+    ghost invariant = { λ r. IsReport r.auditor r.tally };
 }
 
 impl Reporter {
     /// A reporter under this configuration, which has taken no entry.
-    #[inline(never)]
     pub fn open(alloc: Global, config: Checked) -> Result<Reporter, AllocError>
         ensures { IfOk result (λ r. r ≡ whole config []) }
     {
         Ok(Reporter {
-            config,
             auditor: Auditor::open(alloc, config)?,
-            alloc,
-            next: config.start(),
-            flows: Box::new(alloc, no_flows())?,
-            totals: Totals::none(&config),
-            extremes: Extremes::none(),
-            refused: [0; REFUSALS],
-            lives: Vec::new(alloc),
-            places: vec![in alloc; 0; SIDS]?,
-            under: Vec::new(alloc),
-            refused_sids: vec![in alloc; 0; SIDS]?,
-            passed: 0,
+            tally: Tally::open(alloc, config)?,
         })
     }
 
@@ -121,47 +84,16 @@ impl Reporter {
         if self.auditor.taken() >= MAX_WHOLE_HISTORY {
             return Err(JudgeFault::Full);
         }
-        match reserve_for(&mut self.lives, &self.places, &self.config, entry) {
+        match self.tally.reserve(entry) {
             Ok(()) => {}
             Err(_) => return Err(JudgeFault::Memory),
         }
-        match reserve_count(&mut self.under, entry) {
-            Ok(()) => {}
-            Err(_) => return Err(JudgeFault::Memory),
-        }
-        // What its MAP meets, and who waits where it starts, is told by the entries before it.
-        let Ok(met) = self.auditor.met(entry) else {
+        let Ok(outlook) = outlook_of(&self.auditor, entry) else {
             return Err(JudgeFault::Memory);
         };
-        let Ok(sids) = self.auditor.under(entry) else {
-            return Err(JudgeFault::Memory);
-        };
-        let (heard, reserves) = (self.auditor.progress(), self.auditor.open_reserves());
         self.auditor.judge(entry)?;
-        self.totals
-            .add(&self.config, &self.flows, met.as_slice(), entry);
         let left = self.auditor.open_reserves();
-        self.extremes
-            .add(&self.flows, met.as_slice(), &heard, reserves, left, entry);
-        count_refusal(&mut self.refused, entry);
-        note(&mut self.flows, entry);
-        count_under(
-            &mut self.under,
-            &self.lives,
-            &self.places,
-            sids.as_slice(),
-            entry,
-        );
-        self.next = follow(
-            &mut self.lives,
-            &mut self.places,
-            &self.config,
-            self.alloc,
-            self.next,
-            met.as_slice(),
-            entry,
-        );
-        count_refused_sid(&mut self.refused_sids, entry);
+        self.tally.count(&outlook, left, entry);
         Ok(())
     }
 
@@ -170,20 +102,14 @@ impl Reporter {
     pub fn renew(&mut self)
         ensures { self.new ≡ record self.old { passed = length self.old.history } }
     {
-        self.passed = self.auditor.taken();
-        self.totals = Totals::none(&self.config);
-        self.extremes = Extremes::none();
-        self.refused = [0; REFUSALS];
-        renew_each(&mut self.lives, self.next);
-        renew_counts(&mut self.under);
-        renew_counts(&mut self.refused_sids);
+        self.tally.renew(self.auditor.taken());
     }
 
     /// Where the next frame starts after the entries that were taken.
     pub fn next(&self) -> u64
         ensures { result ≡ next_after self.now.config self.now.history }
     {
-        let next = self.next;
+        let next = self.tally.next;
         next
     }
 
@@ -191,7 +117,7 @@ impl Reporter {
     pub fn totals(&self) -> Totals
         ensures { result ≡ totals_told self.now }
     {
-        let totals = self.totals;
+        let totals = self.tally.totals;
         totals
     }
 
@@ -199,7 +125,7 @@ impl Reporter {
     pub fn extremes(&self) -> Extremes
         ensures { AreExtremesTold self.now result }
     {
-        let extremes = self.extremes;
+        let extremes = self.tally.extremes;
         extremes
     }
 
@@ -207,7 +133,7 @@ impl Reporter {
     pub fn refused(&self) -> &[u64]
         ensures { CountsRefusals result.now (entries_of self.now) }
     {
-        &self.refused
+        &self.tally.refused
     }
 
     /// How many refused calls among the entries that are told of name each SID as that of a flow, whether one lives
@@ -215,14 +141,14 @@ impl Reporter {
     pub fn refused_sids(&self) -> &[u64]
         ensures { CountsRefusedSids result.now (entries_of self.now) }
     {
-        self.refused_sids.as_slice()
+        self.tally.refused_sids.as_slice()
     }
 
     /// How many lives of flows the entries that were taken have, those that ended among them.
     pub fn lives(&self) -> usize
         ensures { result ≡ length (lives_told self.now) }
     {
-        self.lives.as_slice().len()
+        self.tally.lives.as_slice().len()
     }
 
     /// Whether the life at a place in the order of the admissions is told of: not where it ended before.
@@ -230,7 +156,7 @@ impl Reporter {
         requires { place < length (lives_told self.now) }
         ensures { (life : PastLife) → result ≡ is_told (slice_index_or (lives_told self.now) place life) }
     {
-        self.lives[place].is_told()
+        self.tally.lives[place].is_told()
     }
 
     /// The numbers of the life at a place in the order of the admissions.
@@ -240,7 +166,8 @@ impl Reporter {
             (slice_index_or (lives_told self.now) place life) }
         ensures few { result.granted < 2 ^ 90 }
     {
-        self.lives[place].numbers(self.next, self.under[place])
+        let (next, waited) = (self.tally.next, &self.tally.waited);
+        self.tally.lives[place].numbers(next, waited.under[place], waited.held[place])
     }
 
     /// The numbers of a rank: of polled flows in [`POLLED`](crate::POLLED), of best effort flows in their priority.
@@ -248,6 +175,6 @@ impl Reporter {
         ensures { AreRankNumbers self.now.config result
             (lives_of_rank rank (lives_told self.now)) }
     {
-        numbers_of(&self.lives, rank)
+        numbers_of(&self.tally.lives, rank)
     }
 }

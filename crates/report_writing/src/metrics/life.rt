@@ -6,6 +6,7 @@ ghost use Rattle.report_writing.specs.Samples.{label, labels_of, count_sample_or
 ghost use Rattle.report_writing.specs.LifeMetrics.{life_count_name, life_count, rank_label_of, life_labels};
 ghost use Rattle.report_writing.specs.LifeMetrics.{life_info, life_samples};
 
+use crate::held::held_of;
 use crate::life::{kind_name, rank_of, spread_of};
 use crate::metrics::delays::{Delays, push_delays};
 use crate::metrics::sample::{Whose, push_count_sample, push_label, push_labels, push_time_sample};
@@ -36,6 +37,7 @@ pub(crate) enum LifeMetric {
     Count(LifeCount),
     Oldest,
     Under,
+    Held,
     Delay,
 }
 
@@ -177,6 +179,10 @@ pub(crate) fn push_life(
         LifeMetric::Under => {
             let name = b"mapsched_flow_under_reservation_frames_total";
             push_count_or_none(words, name, whose, under_of(life))
+        }
+        LifeMetric::Held => {
+            let name = b"mapsched_flow_at_ceiling_frames_total";
+            push_count_or_none(words, name, whose, held_of(life))
         }
         LifeMetric::Delay => {
             let name = b"mapsched_flow_delay_seconds";

@@ -3,8 +3,10 @@
 ghost use Rattle.std.specs.Prelude.{◌≡◌, ◌++◌, OnOk};
 ghost use Rattle.report_writing.specs.LifeMetrics.{lives_samples, life_span_metrics, life_byte_metrics};
 ghost use Rattle.report_writing.specs.LifeMetrics.{life_request_metrics, life_lost_metrics, life_delay_metrics};
-ghost use Rattle.report_writing.specs.LifeMetrics.{life_oldest_metrics, life_under_metrics, lives_metrics};
+ghost use Rattle.report_writing.specs.LifeMetrics.{life_oldest_metrics, life_under_metrics, life_held_metrics};
+ghost use Rattle.report_writing.specs.LifeMetrics.{lives_metrics};
 
+use crate::held::is_any_held;
 use crate::metrics::life::{LifeCount, LifeMetric, push_life};
 use crate::metrics::sample::{Measure, push_heading};
 use crate::reserved::is_any_reserved;
@@ -187,6 +189,25 @@ fn push_under(words: &mut Vec<u8>, ticks: u32, lives: &[LifeNumbers]) -> Result<
     push_samples(words, ticks, LifeMetric::Under, lives)
 }
 
+// And at how many at their ceilings, where one has a ceiling.
+#[tactic(auto, unfolding(crate::specs::LifeMetrics::life_held_metrics))]
+fn push_held(words: &mut Vec<u8>, ticks: u32, lives: &[LifeNumbers]) -> Result<(), AllocError>
+    ensures { OnOk result (words.new.items
+        ≡ words.old.items ++ life_held_metrics ticks lives.now) }
+{
+    if !is_any_held(lives) {
+        return Ok(());
+    }
+    push_heading(
+        words,
+        b"mapsched_flow_at_ceiling_frames",
+        b"counter",
+        Measure::Pieces,
+        b"Frames at whose start the flow waited while its rate or its peak had no room.",
+    )?;
+    push_samples(words, ticks, LifeMetric::Held, lives)
+}
+
 // How long those took that were served.
 #[tactic(auto, unfolding(crate::specs::LifeMetrics::life_delay_metrics))]
 fn push_delay_metrics(
@@ -222,5 +243,6 @@ pub(crate) fn push_lives_metrics(
     push_oldest(words, ticks, lives)?;
     push_lost(words, ticks, lives)?;
     push_under(words, ticks, lives)?;
+    push_held(words, ticks, lives)?;
     push_delay_metrics(words, ticks, lives)
 }

@@ -14,10 +14,12 @@ returns c =
     let fourth = c.push_oldest.new.words.items in
     let fifth = c.push_lost.new.words.items in
     let sixth = c.push_under.new.words.items in
+    let seventh = c.push_held.new.words.items in
     let end = c.push_delay_metrics.new.words.items in
     then_ok r start first end _ _ c.in_ok-push_spans.ensures
     (then_ok r first second end _ _ c.in_ok-push_bytes.ensures
     (then_ok r second third end _ _ c.in_ok-push_requests.ensures
     (then_ok r third fourth end _ _ c.in_ok-push_oldest.ensures
     (then_ok r fourth fifth end _ _ c.in_ok-push_lost.ensures
-    (then_ok r fifth sixth end _ _ c.in_ok-push_under.ensures c.push_delay_metrics.ensures)))))
+    (then_ok r fifth sixth end _ _ c.in_ok-push_under.ensures
+    (then_ok r sixth seventh end _ _ c.in_ok-push_held.ensures c.push_delay_metrics.ensures))))))

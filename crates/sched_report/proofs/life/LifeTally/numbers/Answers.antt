@@ -70,7 +70,7 @@ pub overflow_sub-result : goal.overflow_sub-result
 overflow_sub-result c = omega (arith, c.sums-sums.ensures.within)
 
 pub returns-clause-told : goal.returns-clause-told
-returns-clause-told c = λ k life is now under.
+returns-clause-told c = λ k life is now under held.
     let t = c.args.self.now in
     let sums = c.sums-sums.ensures.sums k life is in
     let alone : AreLives k c.from_ref-one.result.now (life ∷ []) =
@@ -104,4 +104,5 @@ returns-clause-told c = λ k life is now under.
       p99 = subst (λ (ds : List ℕ). TellsPercentile 99 ds c.percentile-2.result) (append-nil (delays_in k life))
           (c.percentile-2.ensures k (life ∷ []) alone);
       under = under;
+      held = held;
     }

@@ -5,5 +5,5 @@ use Rattle.sched_report.proofs.reporter.Reporter.lives.Goals as goal
 
 pub returns : goal.returns
 returns c =
-    ap length c.as_slice.ensures.value ∙ c.self.invariant.lives.long
+    ap length c.as_slice.ensures.value ∙ c.self.invariant.tally.lives.long
     ∙ ap (λ (w : Window). length (lives_told w)) c.self.view_is

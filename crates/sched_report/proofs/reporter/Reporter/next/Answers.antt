@@ -5,7 +5,4 @@ use Rattle.sched_report.specs.Window.{Window}
 use Rattle.sched_report.proofs.reporter.Reporter.next.Goals as goal
 
 pub returns : goal.returns
-returns c =
-    let i = c.self.invariant in
-    i.next ∙ ap (λ k. next_after k c.self.inside.auditor.history) i.config
-    ∙ ap (λ (w : Window). next_after w.config w.history) c.self.view_is
+returns c = c.self.invariant.tally.next ∙ ap (λ (w : Window). next_after w.config w.history) c.self.view_is

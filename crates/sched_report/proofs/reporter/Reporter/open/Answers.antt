@@ -1,42 +1,10 @@
--- Nothing is counted before any entry.
-use Rattle.std.proofs.Common.{◌≡◌, ◌∙◌, ℕ, List, [], length, get_or, refl, sym, ap, subst, arith}
-use Rattle.std.proofs.lemmas.List.{get_or-replicate}
+-- Nothing is taken yet.
+use Rattle.std.proofs.Common.{◌≡◌, ◌∙◌, sym, ap, subst}
 use Rattle.sched_history.specs.Machine.{Past}
 use Rattle.sched_report.specs.Reported.{IsReport}
 use Rattle.sched_report.proofs.reporter.Reporter.open.Goals as goal
 
 pub invariant_of-result : goal.invariant_of-result
 invariant_of-result c =
-    let none : length c.new-2.result.items ≡ 0 = ap length c.new-2.ensures.items in
-    let uncounted : length c.new-3.result.items ≡ 0 = ap length c.new-3.ensures.items in
-    subst (λ (p : Past).
-    IsReport c.args.config p 0 c.in_ok-new.field-0.value c.none.result c.none-2.result _ c.start.result
-    c.new-2.result.items c.in_ok-vec.field-0.items c.new-3.result.items c.in_ok-vec-2.field-0.items)
-    (sym c.in_ok-open.ensures)
-    (record {
-      config = refl;
-      legal = tt;
-      told = rw c.in_ok-new.ensures.ok c.no_flows.ensures;
-      passed_few = omega arith;
-      totals = c.none.ensures [];
-      extremes = c.none-2.ensures c.args.config [];
-      refused = record { places = refl; each = λ place below. get_or-replicate 23 place 0 0 below };
-      lawful = c.start.ensures.lawful;
-      next = omega (arith, c.start.ensures.value);
-      lives = record { long = none; each = λ k t life below. absurd (omega (arith, below, none)) };
-      live = record {
-        long = omega (arith, c.in_ok-vec.field-0.ok.0, c.in_ok-vec.ensures.len);
-        each = λ k t below alive. absurd (omega (arith, below, none));
-      };
-      waited = record {
-        long = uncounted;
-        each = λ k n life below. absurd (omega (arith, below, uncounted));
-        few = λ k n below. absurd (omega (arith, below, uncounted));
-      };
-      sids = record {
-        places = omega (arith, c.in_ok-vec-2.field-0.ok.0, c.in_ok-vec-2.ensures.len);
-        each = λ sid below. ap (λ (ns : List ℕ). get_or ns sid 0)
-            (c.in_ok-vec-2.ensures.items_if_clones_equal (λ y same. same))
-            ∙ get_or-replicate 65536 sid 0 0 below;
-      };
-    })
+    subst (λ (p : Past). IsReport p c.in_ok-open-2.field-0) (sym c.in_ok-open.ensures)
+    (record { config = c.in_ok-open-2.ensures.config; tally = c.in_ok-open-2.ensures.none })

@@ -1,4 +1,4 @@
--- How often a flow waited under its minimum reserved rate, with one entry more.
+-- How often a flow waited and stood so to its rates, with one entry more.
 use Rattle.std.proofs.Common.{◌≡◌, ℕ, ◌+◌, ◌≤◌, ◌==◌, Bool, true, false, List, [], ◌∷◌, ◌++◌, filter, length, take, drop}
 use Rattle.std.proofs.Common.{get_or, refl, ap, ◌∙◌, append_assoc}
 use Rattle.std.proofs.Common.{if◌then◌else◌, arith}
@@ -11,12 +11,13 @@ use Rattle.sched_calls.specs.declared.reply.Reply.TheVariants as replies
 use Rattle.sched_calls.specs.declared.call.Call.{Call}
 use Rattle.sched_calls.specs.declared.call.Call.TheVariants as calls
 use Rattle.sched_calls.specs.declared.reply.Entry.{Entry}
-use Rattle.sched_history.specs.Facts.{under_by}
+use Rattle.flow_book.specs.declared.standing.Standing.{Standing}
+use Rattle.sched_history.specs.Facts.{waits_by}
 use Rattle.sched_history.specs.Life.{turn_by}
 use Rattle.sched_report.specs.declared.life.LifeTally.{LifeTally}
 use Rattle.sched_report.specs.Lives.{PastLife, is_turn, with_entry}
-use Rattle.sched_report.specs.UnderIn.{times, under_since, under_in}
-use Rattle.sched_report.specs.Under.{counted_by, HasCounted}
+use Rattle.sched_report.specs.WaitsIn.{times, waits_since, waits_in}
+use Rattle.sched_report.specs.Waits.{counted_by, HasCounted}
 use Rattle.sched_report.proofs.LegalLives.{IsLifeIn}
 
 -- no SID is more often among some than they are
@@ -64,37 +65,39 @@ HasCounted-none ts a = λ k n t below. by-end (is_some (get_or ts k t).to) (get_
     by-end false m = omega arith
 
 -- one entry more
-pub under_since-push : (c : Config) (sid : ℕ) (before es : List Entry) (e : Entry)
-    → under_since c sid before (es ++ e ∷ []) ≡ under_since c sid before es + times sid (under_by c (before ++ es) e.reply)
-under_since-push c sid before [] e =
+pub waits_since-push : (s : Standing) (c : Config) (sid : ℕ) (before es : List Entry) (e : Entry)
+    → waits_since s c sid before (es ++ e ∷ [])
+    ≡ waits_since s c sid before es + times sid (waits_by s c (before ++ es) e.reply)
+waits_since-push s c sid before [] e =
     rw (append-nil before) (omega arith)
-under_since-push c sid before (x ∷ es) e =
+waits_since-push s c sid before (x ∷ es) e =
     omega (
       arith,
-      under_since-push c sid (before ++ x ∷ []) es e,
-      ap (λ (all : List Entry). times sid (under_by c all e.reply)) (append_assoc before (x ∷ []) es),
+      waits_since-push s c sid (before ++ x ∷ []) es e,
+      ap (λ (all : List Entry). times sid (waits_by s c all e.reply)) (append_assoc before (x ∷ []) es),
     )
 
 -- an entry with which a life ends or begins has no MAP
-turn-none : (c : Config) (h : List Entry) (sid : ℕ) (e : Entry) → is_turn sid e ≡ true → under_by c h e.reply ≡ []
-turn-none c h sid e turn = by-reply e.call e.reply turn
+turn-none : (s : Standing) (c : Config) (h : List Entry) (sid : ℕ) (e : Entry) → is_turn sid e ≡ true
+    → waits_by s c h e.reply ≡ []
+turn-none s c h sid e turn = by-reply e.call e.reply turn
   where
     by-reply : (call : Call) (reply : Reply) → is_some (turn_by sid call reply) ≡ true
-        → under_by c h reply ≡ []
+        → waits_by s c h reply ≡ []
     by-reply (calls.Admit other spec) (replies.Admitted placement) turn = refl
     by-reply (calls.Remove other) replies.Removed turn = refl
     by-reply call reply turn = absurd (cc)
 
 -- a life that goes on has what the entry counts of its SID
-pub under-with : (c : Config) (h : List Entry) (e : Entry) (life : PastLife) → IsLifeIn h life
-    → under_in c (with_entry e life)
-    ≡ under_in c life + (if life.ended then 0 else times life.sid (under_by c h e.reply))
-under-with c h e life in_h = by-end life.ended (is_turn life.sid e) refl refl
+pub waits-with : (s : Standing) (c : Config) (h : List Entry) (e : Entry) (life : PastLife) → IsLifeIn h life
+    → waits_in s c (with_entry e life)
+    ≡ waits_in s c life + (if life.ended then 0 else times life.sid (waits_by s c h e.reply))
+waits-with s c h e life in_h = by-end life.ended (is_turn life.sid e) refl refl
   where
-    by-end : (ended turns : Bool) → life.ended ≡ ended → is_turn life.sid e ≡ turns → under_in c (with_entry e life)
-        ≡ under_in c life + (if life.ended then 0 else times life.sid (under_by c h e.reply))
+    by-end : (ended turns : Bool) → life.ended ≡ ended → is_turn life.sid e ≡ turns → waits_in s c (with_entry e life)
+        ≡ waits_in s c life + (if life.ended then 0 else times life.sid (waits_by s c h e.reply))
     by-end true turns ended turn = rw ended (omega arith)
-    by-end false true ended turn = rw (ended, turn, turn-none c h life.sid e turn) (omega arith)
+    by-end false true ended turn = rw (ended, turn, turn-none s c h life.sid e turn) (omega arith)
     by-end false false ended turn =
         let within : life.passed ≤ length life.since = in_h.passed ended in
         let front : List Entry = take life.passed life.since in
@@ -104,8 +107,8 @@ under-with c h e life in_h = by-end life.ended (is_turn life.sid e) refl refl
         ∙ ap (λ (es : List Entry). life.upto ++ es) (take-append-drop life.passed life.since)
         ∙ in_h.whole ended in
         rw (ended, turn)
-        (ap (λ (es : List Entry). under_since c life.sid (life.upto ++ es)
+        (ap (λ (es : List Entry). waits_since s c life.sid (life.upto ++ es)
         (drop life.passed (life.since ++ e ∷ []))) (take-append-le life.passed life.since (e ∷ []) within)
-        ∙ ap (under_since c life.sid (life.upto ++ front)) (drop-append-le life.passed life.since (e ∷ []) within)
-        ∙ under_since-push c life.sid (life.upto ++ front) rest e
-        ∙ ap (λ (all : List Entry). under_in c life + times life.sid (under_by c all e.reply)) whole)
+        ∙ ap (waits_since s c life.sid (life.upto ++ front)) (drop-append-le life.passed life.since (e ∷ []) within)
+        ∙ waits_since-push s c life.sid (life.upto ++ front) rest e
+        ∙ ap (λ (all : List Entry). waits_in s c life + times life.sid (waits_by s c all e.reply)) whole)
