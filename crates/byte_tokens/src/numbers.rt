@@ -117,6 +117,18 @@ pub(crate) fn number_at(text: &[u8], from: usize) -> Option<(u64, usize)>
     digits_behind(text, from, from + 1, (first - b'0') as u64)
 }
 
+/// The same of any count of digits. Compiled apart, so that the way of numbers of a known count stays short.
+#[inline(never)]
+pub(crate) fn any_number_at(text: &[u8], from: usize) -> Option<(u64, usize)>
+    ensures { IfSome result (λ r. (r.1 ≤ length text.now) × (from < r.1) × (r.0 < 2 ^ 64)
+        × (drop from text.now ≡ decimal r.0 ++ drop r.1 text.now)) }
+{
+    if let Some(found) = number_at(text, from) {
+        return Some(found);
+    }
+    long_number_at(text, from)
+}
+
 // The number whose first eight digits stand at a place, and where its digits end.
 #[inline(always)]
 fn eight_at(text: &[u8], from: usize) -> Option<(u64, usize)>
@@ -148,10 +160,10 @@ pub(crate) fn wide_number_at(text: &[u8], from: usize) -> Option<(u64, usize)>
         × (drop from text.now ≡ decimal r.0 ++ drop r.1 text.now)) }
 {
     if text.len() - from < 12 || text[from] == b'0' {
-        return number_at(text, from);
+        return any_number_at(text, from);
     }
     if four_digits(text, from) & four_digits(text, from + 4) {
         return eight_at(text, from);
     }
-    number_at(text, from)
+    any_number_at(text, from)
 }
