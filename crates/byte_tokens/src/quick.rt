@@ -259,8 +259,9 @@ impl<'a> Quick<'a> {
         Some(found)
     }
 
-    /// Takes a whole number in the same way, quickly where it has eight digits or more, as counts of minislots have.
-    #[inline(never)]
+    /// Takes a whole number, quickly where it has eight digits or more, as counts of minislots have: put where it is
+    /// called.
+    #[inline(always)]
     pub fn take_wide_number(&mut self) -> Option<u64>
         ensures { IfSome result (λ n. (n < 2 ^ 64)
             × (self.old ≡ number (decimal n) ∷ self.new)) }
@@ -269,9 +270,7 @@ impl<'a> Quick<'a> {
             return None;
         }
         let text = self.text.as_bytes();
-        let Some((found, at)) = wide_number_at(text, self.at) else {
-            return self.take_long_number();
-        };
+        let (found, at) = wide_number_at(text, self.at)?;
         let (at, before) = ended_value(text, at)?;
         self.at = at;
         self.before = before;

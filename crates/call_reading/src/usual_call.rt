@@ -1,19 +1,28 @@
 //! The commonest calls, where their members stand in the order in which they are written: that of their keys.
 
 ghost use Rattle.std.specs.Prelude.{◌≡◌, ◌∷◌, ℕ, List, codes, IsTrue, IfSome};
-ghost use Rattle.json.specs.Token.{key, string};
+ghost use Rattle.json.specs.Token.{begin_object, key, string};
 ghost use Rattle.json.specs.Print.{escape};
 ghost use Rattle.serde_json.specs.Data.{number, unsigned};
 ghost use Rattle.byte_tokens.specs.Spelled.{spelled_key, spelled_text, spelled_run};
 ghost use Rattle.call_reading.specs.declared.field.Field.{Field};
 ghost use Rattle.call_reading.specs.Field.{key_of, NotesMember};
 ghost use Rattle.call_reading.specs.Seen.{Seen, seen_with};
-ghost use Rattle.call_reading.specs.Made.{MakesCall};
+ghost use Rattle.call_reading.specs.Made.{MakesObject};
 
 use super::field::Field;
 use super::found::{Found, ask, build, heard, remove, status};
 use byte_tokens::Quick;
 use sched_calls::Call;
+
+/// What stands between the tokens of a call.
+#[derive(Clone, Copy)]
+pub(crate) enum Spacing {
+    /// Nothing.
+    Close,
+    /// Mostly a space behind each colon and each comma.
+    Spaced,
+}
 
 // The number of the field whose key is spelled so, if it is next.
 #[inline(always)]
@@ -43,10 +52,9 @@ fn minislots_under(reader: &mut Quick<'_>, spelled: &str, field: Field) -> Optio
     Some(number)
 }
 
-// The same of the name of a call under its key, and the key behind it, token by token. Compiled apart, since mostly
-// nothing stands between them.
-#[inline(never)]
-fn take_named_apart(reader: &mut Quick<'_>, name: &str, behind: &str) -> bool
+// Takes the name of a call under its key, and the key behind it, token by token, if they are next and spelled so.
+#[inline(always)]
+fn take_spaced(reader: &mut Quick<'_>, name: &str, behind: &str) -> bool
     ensures { IsTrue result → (content : List ℕ) → (field : Field) → escape content ≡ content
         → name.now ≡ spelled_text content → behind.now ≡ spelled_key (key_of field)
         → reader.old ≡ key (codes "call") ∷ string content ∷ key (key_of field) ∷ reader.new }
@@ -63,28 +71,69 @@ fn take_named_apart(reader: &mut Quick<'_>, name: &str, behind: &str) -> bool
     true
 }
 
-// Takes the name of a call under its key, and the key behind it, if they are next and spelled so: together as `run`
-// where nothing stands between them.
+// Takes the brace that opens a call, its name under its key, and the key behind it, if they are next and spelled so:
+// together as `run` where nothing stands between them.
 #[inline(always)]
-fn take_named(reader: &mut Quick<'_>, run: &str, name: &str, behind: &str) -> bool
+fn open_named(
+    reader: &mut Quick<'_>,
+    spacing: Spacing,
+    run: &str,
+    name: &str,
+    behind: &str,
+) -> bool
     ensures { IsTrue result → (content : List ℕ) → (field : Field) → escape content ≡ content
-        → run.now ≡ spelled_run (codes "call") content (key_of field)
+        → run.now ≡ 123 ∷ spelled_run (codes "call") content (key_of field)
         → name.now ≡ spelled_text content → behind.now ≡ spelled_key (key_of field)
-        → reader.old ≡ key (codes "call") ∷ string content ∷ key (key_of field) ∷ reader.new }
+        → reader.old ≡ begin_object ∷ key (codes "call") ∷ string content ∷ key (key_of field) ∷ reader.new }
 {
-    if reader.take_spelled_run(run) {
-        return true;
+    match spacing {
+        Spacing::Close => reader.open_with_run(run),
+        Spacing::Spaced => {
+            if !reader.open_object() {
+                return false;
+            }
+            take_spaced(reader, name, behind)
+        }
     }
-    take_named_apart(reader, name, behind)
+}
+
+// Takes the brace that opens a request, and the key of its bytes, if they are next.
+#[inline(always)]
+fn open_bytes(reader: &mut Quick<'_>, spacing: Spacing) -> bool
+    ensures { IsTrue result → reader.old ≡ begin_object ∷ key (codes "bytes") ∷ reader.new }
+{
+    match spacing {
+        Spacing::Close => reader.open_with_key("{\"bytes\":"),
+        Spacing::Spaced => {
+            if !reader.open_object() {
+                return false;
+            }
+            reader.take_spelled_key("\"bytes\":")
+        }
+    }
+}
+
+// Takes the name of a request under its key, and the key behind it, if they are next.
+#[inline(always)]
+fn take_ask(reader: &mut Quick<'_>, spacing: Spacing) -> bool
+    ensures { IsTrue result
+        → reader.old ≡ key (codes "call") ∷ string (codes "ask") ∷ key (codes "heard") ∷ reader.new }
+{
+    match spacing {
+        Spacing::Close => reader.take_spelled_run("\"call\":\"ask\",\"heard\":"),
+        Spacing::Spaced => take_spaced(reader, "\"ask\"", "\"heard\":"),
+    }
 }
 
 // A question for a flow's bytes.
-fn usual_status(reader: &mut Quick<'_>) -> Option<Call>
-    ensures { IfSome result (λ call. (depth : ℕ) → MakesCall depth reader.old reader.new call) }
+#[inline(always)]
+fn usual_status(reader: &mut Quick<'_>, spacing: Spacing) -> Option<Call>
+    ensures { IfSome result (λ call. (depth : ℕ) → MakesObject depth reader.old reader.new call) }
 {
-    if !take_named(
+    if !open_named(
         reader,
-        "\"call\":\"status\",\"sid\":",
+        spacing,
+        "{\"call\":\"status\",\"sid\":",
         "\"status\"",
         "\"sid\":",
     ) {
@@ -101,12 +150,14 @@ fn usual_status(reader: &mut Quick<'_>) -> Option<Call>
 }
 
 // A removal.
-fn usual_remove(reader: &mut Quick<'_>) -> Option<Call>
-    ensures { IfSome result (λ call. (depth : ℕ) → MakesCall depth reader.old reader.new call) }
+#[inline(always)]
+fn usual_remove(reader: &mut Quick<'_>, spacing: Spacing) -> Option<Call>
+    ensures { IfSome result (λ call. (depth : ℕ) → MakesObject depth reader.old reader.new call) }
 {
-    if !take_named(
+    if !open_named(
         reader,
-        "\"call\":\"remove\",\"sid\":",
+        spacing,
+        "{\"call\":\"remove\",\"sid\":",
         "\"remove\"",
         "\"sid\":",
     ) {
@@ -123,12 +174,14 @@ fn usual_remove(reader: &mut Quick<'_>) -> Option<Call>
 }
 
 // A receiver's progress.
-fn usual_heard(reader: &mut Quick<'_>) -> Option<Call>
-    ensures { IfSome result (λ call. (depth : ℕ) → MakesCall depth reader.old reader.new call) }
+#[inline(always)]
+fn usual_heard(reader: &mut Quick<'_>, spacing: Spacing) -> Option<Call>
+    ensures { IfSome result (λ call. (depth : ℕ) → MakesObject depth reader.old reader.new call) }
 {
-    if !take_named(
+    if !open_named(
         reader,
-        "\"call\":\"heard\",\"receiver\":",
+        spacing,
+        "{\"call\":\"heard\",\"receiver\":",
         "\"heard\"",
         "\"receiver\":",
     ) {
@@ -147,12 +200,14 @@ fn usual_heard(reader: &mut Quick<'_>) -> Option<Call>
 }
 
 // A build.
-fn usual_build(reader: &mut Quick<'_>) -> Option<Call>
-    ensures { IfSome result (λ call. (depth : ℕ) → MakesCall depth reader.old reader.new call) }
+#[inline(always)]
+fn usual_build(reader: &mut Quick<'_>, spacing: Spacing) -> Option<Call>
+    ensures { IfSome result (λ call. (depth : ℕ) → MakesObject depth reader.old reader.new call) }
 {
-    if !take_named(
+    if !open_named(
         reader,
-        "\"call\":\"build\",\"now\":",
+        spacing,
+        "{\"call\":\"build\",\"now\":",
         "\"build\"",
         "\"now\":",
     ) {
@@ -169,16 +224,15 @@ fn usual_build(reader: &mut Quick<'_>) -> Option<Call>
 }
 
 // A request.
-fn usual_ask(reader: &mut Quick<'_>) -> Option<Call>
-    ensures { IfSome result (λ call. (depth : ℕ) → MakesCall depth reader.old reader.new call) }
+#[inline(always)]
+fn usual_ask(reader: &mut Quick<'_>, spacing: Spacing) -> Option<Call>
+    ensures { IfSome result (λ call. (depth : ℕ) → MakesObject depth reader.old reader.new call) }
 {
-    let bytes = number_under(reader, "\"bytes\":", Field::Bytes)?;
-    if !take_named(
-        reader,
-        "\"call\":\"ask\",\"heard\":",
-        "\"ask\"",
-        "\"heard\":",
-    ) {
+    if !open_bytes(reader, spacing) {
+        return None;
+    }
+    let bytes = reader.take_short_number()?;
+    if !take_ask(reader, spacing) {
         return None;
     }
     let at = reader.take_wide_number()?;
@@ -196,37 +250,44 @@ fn usual_ask(reader: &mut Quick<'_>) -> Option<Call>
     Some(call)
 }
 
-// The first letter of the name of a call, where its key is next, with a space behind it or none.
+// The byte by which these calls are told apart: the first letter of the name, where it stands first, and else a space
+// or a digit.
 #[inline(always)]
-fn name_letter(reader: &Quick<'_>) -> u8 {
-    let letter = reader.byte_behind(8);
-    if letter == b'"' {
-        return reader.byte_behind(9);
+fn telling_byte(reader: &Quick<'_>, spacing: Spacing) -> u8 {
+    match spacing {
+        Spacing::Close => reader.byte_behind(9),
+        Spacing::Spaced => reader.byte_behind(10),
     }
-    letter
 }
 
-// A call whose name stands first.
-fn usual_named(reader: &mut Quick<'_>) -> Option<Call>
-    ensures { IfSome result (λ call. (depth : ℕ) → MakesCall depth reader.old reader.new call) }
+// The call of these that comes next. There is none where the call is another one, has its members in another order, or
+// has something else between its tokens.
+#[inline(always)]
+fn call_spaced_so(reader: &mut Quick<'_>, spacing: Spacing) -> Option<Call>
+    ensures { IfSome result (λ call. (depth : ℕ) → MakesObject depth reader.old reader.new call) }
 {
-    match name_letter(reader) {
-        b'b' => usual_build(reader),
-        b'h' => usual_heard(reader),
-        b'r' => usual_remove(reader),
-        b's' => usual_status(reader),
-        _ => None,
+    match telling_byte(reader, spacing) {
+        b's' => usual_status(reader, spacing),
+        b'h' => usual_heard(reader, spacing),
+        b'b' => usual_build(reader, spacing),
+        b'r' => usual_remove(reader, spacing),
+        _ => usual_ask(reader, spacing),
     }
 }
 
-/// The call of these whose brace was taken, and the brace that closes it. There is none where the call is another one,
-/// or has its members in another order.
+/// The call of these that comes next, where nothing stands between its tokens. There is none where the call is another
+/// one, or has its members in another order.
+#[inline(always)]
 pub(crate) fn usual_call(reader: &mut Quick<'_>) -> Option<Call>
-    ensures { IfSome result (λ call. (depth : ℕ) → MakesCall depth reader.old reader.new call) }
+    ensures { IfSome result (λ call. (depth : ℕ) → MakesObject depth reader.old reader.new call) }
 {
-    match reader.letter() {
-        b'b' => usual_ask(reader),
-        b'c' => usual_named(reader),
-        _ => None,
-    }
+    call_spaced_so(reader, Spacing::Close)
+}
+
+/// The same, where spaces stand between its tokens. Compiled apart, since mostly none do.
+#[inline(never)]
+pub(crate) fn spaced_call(reader: &mut Quick<'_>) -> Option<Call>
+    ensures { IfSome result (λ call. (depth : ℕ) → MakesObject depth reader.old reader.new call) }
+{
+    call_spaced_so(reader, Spacing::Spaced)
 }

@@ -1,0 +1,17 @@
+-- The brace stands first, and behind it the key.
+use Rattle.std.proofs.Common.{◌+◌, ◌++◌, drop, length, sym, ap, ◌∙◌}
+use Rattle.byte_tokens.proofs.Bytes.{word_first}
+use Rattle.byte_tokens.proofs.Taken.{key_opens}
+use Rattle.byte_tokens.proofs.quick.Quick.open_with_key.Goals as goal
+
+pub returns : goal.returns
+returns c name plain is =
+    let a = c.self.inside in
+    let text = a.text.now in
+    let found = c.stands_at.ensures c.if-not-stands_at.false in
+    let here = word_first c.as_bytes-text.result.now text c.as_bytes.result.now c.args.spelled.now a.at
+    c.as_bytes-text.ensures.value c.as_bytes.ensures.value found.1 in
+    sym c.self.view_is
+    ∙ key_opens a.before (sym c.may_begin.ensures ∙ c.if-not-may_begin.false) (drop a.at text)
+    (drop (a.at + length c.args.spelled.now) text) name plain
+    (here ∙ ap (λ s. s ++ drop (a.at + length c.args.spelled.now) text) is)
