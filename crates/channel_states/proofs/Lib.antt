@@ -1,0 +1,5 @@
+pub mod Left
+pub mod Orders
+pub mod Places
+pub mod Together
+pub mod Taking
