@@ -1,5 +1,6 @@
 pub mod Left
 pub mod Orders
+pub mod Wrong
 pub mod Places
 pub mod Together
 pub mod Taking

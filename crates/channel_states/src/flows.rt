@@ -1,12 +1,13 @@
 //! The live flows of a state, by their SIDs, their number and each by itself.
 
-ghost use Rattle.std.specs.Prelude.{◌≡◌, ◌≤◌, true, false, length, sum_by, count_by};
+ghost use Rattle.std.specs.Prelude.{◌≡◌, ◌≤◌, true, false, length, sum_by, IfSome, IfNone};
 ghost use Rattle.std.specs.List.{AllByRecursion};
 ghost use Rattle.sched_calls.specs.declared.reply.TheConstants.{MAX_WHOLE_HISTORY};
 ghost use Rattle.sched_calls.specs.FlowSpec.{grants_of};
 ghost use Rattle.sched_calls.specs.Sids.{AscendBy};
 ghost use Rattle.channel_states.specs.PossibleFlow.{IsPossibleFlow};
 ghost use Rattle.channel_states.specs.Possible.{KeepLimits, waits_from_before, waiting_from_before};
+ghost use Rattle.channel_states.specs.Faults.{IsFirstWrong};
 
 use crate::flow::is_possible_flow;
 use minislots::Checked;
@@ -43,24 +44,26 @@ fn grants_of(flows: &[FlowState]) -> u64
     flows.iter().map(|flow| u64::from(flow.spec.grants())).sum()
 }
 
-// Whether each flow may be as it is after so many entries, where the next frame starts there.
-pub(crate) fn are_possible_flows(
+// The SID of the first flow that cannot be as it is after so many entries, where the next frame starts there.
+pub(crate) fn first_wrong_sid(
     config: &Checked,
     entries: u64,
     next: u64,
     flows: &[FlowState],
-) -> bool
+) -> Option<u16>
     requires { entries ≤ MAX_WHOLE_HISTORY }
-    ensures possible { result ≡ true → AllByRecursion (IsPossibleFlow config.now entries next) flows.now }
-    ensures impossible { result ≡ false
-        → AllByRecursion (IsPossibleFlow config.now entries next) flows.now → ⊥ }
+    ensures possible { IfNone result (AllByRecursion (IsPossibleFlow config.now entries next) flows.now) }
+    ensures impossible { IfSome result
+        (λ _. AllByRecursion (IsPossibleFlow config.now entries next) flows.now → ⊥) }
+    ensures first { IfSome result
+        (λ sid. IsFirstWrong (IsPossibleFlow config.now entries next) sid flows.now) }
 {
     for flow in flows {
         if !is_possible_flow(config, entries, next, flow) {
-            return false;
+            return Some(flow.sid);
         }
     }
-    true
+    None
 }
 
 // Whether no more flows wait from before this minislot than a MAP shows.

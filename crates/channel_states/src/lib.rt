@@ -17,7 +17,7 @@ mod reserves;
 pub use fault::StateFault;
 
 use channel::{has_possible_times, is_possible_change, is_possible_header};
-use flows::{are_few_from_before, are_possible_flows, have_sids, keep_limits};
+use flows::{are_few_from_before, first_wrong_sid, have_sids, keep_limits};
 use frame::stand_beside;
 use minislots::Checked;
 use reserves::are_possible_reserves;
@@ -49,8 +49,8 @@ pub fn fault_of(config: &Checked, state: &ChannelState) -> Option<StateFault>
     if !keep_limits(config, flows) {
         return Some(StateFault::Limits);
     }
-    if !are_possible_flows(config, state.entries, state.next, flows) {
-        return Some(StateFault::Flows);
+    if let Some(sid) = first_wrong_sid(config, state.entries, state.next, flows) {
+        return Some(StateFault::Flow(sid));
     }
     if !stand_beside(config, flows) {
         return Some(StateFault::Places);
