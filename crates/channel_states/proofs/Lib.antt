@@ -4,3 +4,5 @@ pub mod Wrong
 pub mod Places
 pub mod Together
 pub mod Taking
+pub mod RowsPossible
+pub mod RowsImpossible
