@@ -4,5 +4,6 @@ pub mod Wrong
 pub mod Places
 pub mod Together
 pub mod Taking
+pub mod Sound
 pub mod RowsPossible
 pub mod RowsImpossible

@@ -3,6 +3,7 @@
 ghost use Rattle.std.specs.Prelude.{◌≡◌, ℕ, ◌<◌, ◌+◌, ◌++◌, [], ◌∷◌, true, false, map};
 ghost use Rattle.std.specs.List.{AllByRecursion};
 ghost use Rattle.sched_calls.specs.FlowSpec.{size_of};
+ghost use Rattle.minislots.specs.Config.{IsLawful};
 ghost use Rattle.periodic.specs.Placement.{spots_in};
 ghost use Rattle.periodic.specs.Table.{IsApart};
 ghost use Rattle.channel_states.specs.PossibleFlow.{IsPossibleFlow};
@@ -26,6 +27,7 @@ pub(crate) fn stand_beside(config: &Checked, flows: &[FlowState]) -> bool
     requires { (entries next : ℕ) × AllByRecursion (IsPossibleFlow config.now entries next) flows.now }
     ensures beside { result ≡ true → StandBeside config.now flows.now }
     ensures not { result ≡ false → StandBeside config.now flows.now → ⊥ }
+    ensures lawful { IsLawful config.now }
 {
     for place in 0..u64::from(config.cycle()) {
         if !stand_beside_in(config, flows, place) {

@@ -2,6 +2,8 @@
 #![tactic(auto)]
 
 ghost use Rattle.std.specs.Prelude.{IfSome, IfNone};
+ghost use Rattle.periodic.specs.Table.{AreSound};
+ghost use Rattle.channel_states.specs.PossiblePlaces.{placed_in};
 ghost use Rattle.channel_states.specs.Possible.{IsPossible};
 ghost use Rattle.channel_states.specs.Faults.{IsFirstFault};
 
@@ -28,6 +30,7 @@ use sched_calls::{ChannelState, MAX_WHOLE_HISTORY};
 pub fn fault_of(config: &Checked, state: &ChannelState) -> Option<StateFault>
     ensures possible { IfNone result (IsPossible config.now state.now) }
     ensures impossible { IfSome result (λ _. IsPossible config.now state.now → ⊥) }
+    ensures sound { IfNone result (AreSound config.now (placed_in config.now state.now.flows)) }
     ensures first { IfSome result (IsFirstFault config.now state.now) }
 {
     let flows = state.flows.as_slice();
