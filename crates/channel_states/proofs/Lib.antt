@@ -5,5 +5,6 @@ pub mod Places
 pub mod Together
 pub mod Taking
 pub mod Sound
+pub mod Worked
 pub mod RowsPossible
 pub mod RowsImpossible

@@ -25,13 +25,19 @@ ordered-less flows least i f within is late left =
     let rest = drop (i + 1) flows in
     record {
       gives = λ from.
-          left.gives (rw (drop-here flows i f within is) ((late, all-weaker (λ g. f.sid + 1 ≤ g.sid)
-          (λ g. least ≤ g.sid) (λ g above. omega arith) rest from.0),
-          (all-weaker (λ g. f.sid + 1 ≤ g.sid) (λ g. f.sid < g.sid) (λ g above. omega arith) rest from.0, from.1)));
+          left.gives (rw (drop-here flows i f within is) (
+            (
+              late,
+              all-weaker (λ g. f.sid + 1 ≤ g.sid)
+                  (λ g. least ≤ g.sid) (λ g above. omega arith) rest from.0,
+            ),
+            (all-weaker (λ g. f.sid + 1 ≤ g.sid) (λ g. f.sid < g.sid) (λ g above. omega arith) rest from.0, from.1),
+          ));
       needs = λ all.
-          (let now = rw (drop-here flows i f within is) at (left.needs all) in
-          (all-weaker (λ g. f.sid < g.sid) (λ g. f.sid + 1 ≤ g.sid) (λ g above. omega arith) rest now.1.0,
-          now.1.1));
+          (let now = rw (drop-here flows i f within is) at (left.needs all) in (
+            all-weaker (λ g. f.sid < g.sid) (λ g. f.sid + 1 ≤ g.sid) (λ g above. omega arith) rest now.1.0,
+            now.1.1,
+          ));
     }
 
 -- Reserves that may wait in this order, none of which saw more MAPs than these
@@ -54,7 +60,14 @@ waiting-less c rs most i d within low may left =
     let r = get_or rs i d in
     record {
       gives = λ upto.
-          left.gives (rw (drop_more rs i d within) ((low, all-weaker (λ s. s.maps ≤ r.maps) (λ s. s.maps ≤ most)
-          (λ s below. omega arith) (drop (i + 1) rs) upto.0), (may, upto.1), (upto.0, upto.2)));
+          left.gives (rw (drop_more rs i d within) (
+            (
+              low,
+              all-weaker (λ s. s.maps ≤ r.maps) (λ s. s.maps ≤ most)
+                  (λ s below. omega arith) (drop (i + 1) rs) upto.0,
+            ),
+            (may, upto.1),
+            (upto.0, upto.2),
+          ));
       needs = λ all. (let now = rw (drop_more rs i d within) at (left.needs all) in (now.2.0, now.1.1, now.2.1));
     }

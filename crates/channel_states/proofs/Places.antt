@@ -1,6 +1,5 @@
 -- A place told from the first cycle on, and its starts in each nominal frame.
 use Rattle.std.proofs.Common.{◌≡◌, sym, ap, ◌∙◌, subst, ℕ, ◌+◌, ◌*◌, ◌/◌, ◌%◌, ◌<◌, List, [], length, arith}
-use Rattle.std.specs.List.{AllByRecursion}
 use Rattle.std.proofs.Math.Nat.{mod-eq_of_lt}
 use Rattle.std.proofs.lemmas.Nat.{div-mul-add, mod-mul-add}
 use Rattle.minislots.specs.declared.config.Config.{Config}
@@ -70,12 +69,14 @@ module _ (c : Config) (spec : FlowSpec) (n : Nominal) (is : IsNominalOf c spec n
 
   -- starts that are lawful in each frame of the phase, by its index, are those of a lawful placement
   pub starts-lawful : length place.starts ≡ c.cycle / n.interval * n.grants
-      → ((index : ℕ) → index < c.cycle / n.interval → AreStartsFrom c n place.offset (group_at n.grants index place.starts))
+      → ((index : ℕ) → index < c.cycle / n.interval
+      → AreStartsFrom c n place.offset (group_at n.grants index place.starts))
       → HasLawfulStarts c spec (placement_of c place) (λ k. [])
   starts-lawful count each =
       let p = placement_of c place in
       record {
-        count = count ∙ ap (λ m. c.cycle / m * n.grants) is.interval ∙ ap (λ m. c.cycle / interval_frames c spec * m) is.grants;
+        count = count ∙ ap (λ m. c.cycle / m * n.grants) is.interval
+            ∙ ap (λ m. c.cycle / interval_frames c spec * m) is.grants;
         each = λ k low nominal.
             (let index = k / interval_frames c spec in
             let lt = index-within (interval_frames c spec) 0 parts.interval_positive c.cycle k parts.divides low in

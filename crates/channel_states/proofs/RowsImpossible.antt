@@ -1,13 +1,11 @@
 -- Worked states that are not possible, each by one thing that is another than in the possible one.
-use Rattle.std.proofs.Common.{◌≡◌, refl, ℕ, ◌≤◌, true, false, List, [], ◌∷◌, Some, None, lit<, inl, inr, arith}
+use Rattle.std.proofs.Common.{refl, true, false, [], ◌∷◌, Some, None, lit<, inl, inr, arith}
 use Rattle.sched_calls.specs.declared.opportunity.Usage.TheVariants.{Initial, Station}
 use Rattle.sched_calls.specs.declared.spec.FlowSpec.TheVariants.{BestEffort}
-use Rattle.sched_calls.specs.declared.state.ChannelState.{ChannelState}
-use Rattle.sched_calls.specs.declared.state.FlowState.{FlowState}
 use Rattle.sched_calls.specs.FlowSpec.{first_fault}
 use Rattle.channel_states.specs.Possible.{IsPossible}
-use Rattle.channel_states.proofs.RowsPossible.{channel, voice_at, polled, polled_place, in_two_batches, in_one_batch}
-use Rattle.channel_states.proofs.RowsPossible.{header, older, newer, with_flows, state}
+use Rattle.channel_states.proofs.Worked.{channel, voice_at, polled, polled_place, in_two_batches, in_one_batch}
+use Rattle.channel_states.proofs.Worked.{header, older, newer, with_flows, state}
 
 -- more entries than 2^44
 pub a_history_has_no_more_entries : IsPossible channel (record state { entries = 17592186044417 }) → ⊥
@@ -98,8 +96,8 @@ no_start_is_after_its_jitter is =
     absurd (omega (arith, (is.flows.0.place.1.starts.each 1 (lit< tt) refl).each.0.within_jitter))
 
 -- two voices that have a minislot in common, though one rests
-pub a_flow_that_rests_keeps_its_minislots : IsPossible channel (with_flows (voice_at 5 4 true ∷ voice_at 6 18 false ∷ []))
-    → ⊥
+pub a_flow_that_rests_keeps_its_minislots :
+    IsPossible channel (with_flows (voice_at 5 4 true ∷ voice_at 6 18 false ∷ [])) → ⊥
 a_flow_that_rests_keeps_its_minislots is = elim (is.places 0 (lit< tt)).apart.0.0 [
   | inl before ↦ omega (arith, before)
   | inr after ↦ omega (arith, after)
@@ -111,7 +109,8 @@ outstanding_bytes_are_in_a_batch is = absurd (omega (arith, is.flows.0.batches))
 
 -- a second batch with no bytes
 pub a_second_batch_has_bytes : IsPossible channel
-    (with_flows (record in_one_batch { batches = Some (record { end = 300; first = 900; second = Some 901 }) } ∷ [])) → ⊥
+    (with_flows (record in_one_batch { batches = Some (record { end = 300; first = 900; second = Some 901 }) } ∷ []))
+    → ⊥
 a_second_batch_has_bytes is = absurd (let none = is.flows.0.batches.second.1 refl in cc)
 
 -- a first batch whose bytes are all granted

@@ -1,5 +1,5 @@
 -- The places of a possible state are those of a table of placements, but for the references.
-use Rattle.std.proofs.Common.{◌≡◌, refl, sym, ap, subst, ℕ, ◌+◌, ◌<◌, ◌≤◌, ◌%◌, Option, None, Some, List, [], ◌∷◌, length}
+use Rattle.std.proofs.Common.{◌≡◌, refl, sym, ap, subst, ℕ, ◌<◌, ◌≤◌, ◌%◌, Option, None, Some, List, [], ◌∷◌, length}
 use Rattle.std.proofs.Common.{sum_by, arith}
 use Rattle.std.specs.List.{AllByRecursion}
 use Rattle.std.proofs.lemmas.List.Sums.{sum_by-cons}
@@ -10,19 +10,19 @@ use Rattle.sched_calls.specs.declared.state.FlowState.{FlowState}
 use Rattle.sched_calls.specs.declared.state.PlaceState.{PlaceState}
 use Rattle.sched_calls.specs.FlowSpec.{grants_of}
 use Rattle.sched_calls.specs.Sids.{AscendBy}
-use Rattle.periodic.specs.declared.placement.Spot.{Spot}
-use Rattle.periodic.specs.Placement.{Placed, spots_in}
+use Rattle.periodic.specs.Placement.{Placed}
 use Rattle.periodic.specs.Table.{placed_grants, AreApart, IsSoundPlaced, AreSound}
 use Rattle.periodic.proofs.Frames.{in-cycle, spots_in-place}
 use Rattle.channel_states.specs.PossibleFlow.{IsPossibleFlow}
-use Rattle.channel_states.specs.PossiblePlaces.{placed_at, placed_of, placed_in}
+use Rattle.channel_states.specs.PossiblePlaces.{placed_at, placed_in}
 use Rattle.channel_states.specs.Possible.{IsPossible}
 use Rattle.channel_states.proofs.Places.{offset-is}
 use Rattle.channel_states.proofs.Taking.{own-place}
 
 module _ (c : Config) where
-  placed-by : (P : List Placed → Type 0) (f : FlowState) (flows : List FlowState) (at : Option PlaceState) → f.place ≡ at
-      → P (placed_in c flows) → ((place : PlaceState) → f.place ≡ Some place → P (placed_at c f place ∷ placed_in c flows))
+  placed-by : (P : List Placed → Type 0) (f : FlowState) (flows : List FlowState) (at : Option PlaceState)
+      → f.place ≡ at → P (placed_in c flows)
+      → ((place : PlaceState) → f.place ≡ Some place → P (placed_at c f place ∷ placed_in c flows))
       → P (placed_in c (f ∷ flows))
   placed-by P f flows None is none some = rw is none
   placed-by P f flows (Some place) is none some = rw is (some place is)
@@ -56,8 +56,12 @@ module _ (c : Config) where
       let sum = sum_by-cons (λ (g : FlowState). grants_of g.spec) f flows in
       placed-first (λ placed. placed_grants placed ≤ sum_by (λ g. grants_of g.spec) (f ∷ flows)) f flows
       (omega (arith, rest, sum))
-      (λ place is. omega (arith, rest, sum,
-      sum_by-cons (λ (p : Placed). grants_of p.spec) (placed_at c f place) (placed_in c flows)))
+      (λ place is. omega (
+        arith,
+        rest,
+        sum,
+        sum_by-cons (λ (p : Placed). grants_of p.spec) (placed_at c f place) (placed_in c flows),
+      ))
 
   -- a possible flow with a place is soundly placed
   sound-placed : (entries next : ℕ) (f : FlowState) (at : PlaceState) → IsPossibleFlow c entries next f
@@ -88,7 +92,12 @@ module _ (c : Config) where
     most = omega (arith, grants-placed s.flows, is.limits.grants_most);
     each = each-placed s.entries s.next s.flows is.flows;
     apart = λ k.
-        subst AreApart (spots_in-place c k (placed_in c s.flows)) ((is.places (k % c.cycle) (in-cycle c k lawful)).apart);
+        subst AreApart (spots_in-place c k (placed_in c s.flows))
+        ((is.places (k % c.cycle) (in-cycle c k lawful)).apart);
     few = λ k.
-        omega (arith, ap length (spots_in-place c k (placed_in c s.flows)), (is.places (k % c.cycle) (in-cycle c k lawful)).few);
+        omega (
+          arith,
+          ap length (spots_in-place c k (placed_in c s.flows)),
+          (is.places (k % c.cycle) (in-cycle c k lawful)).few,
+        );
   }

@@ -1,6 +1,6 @@
 -- What one flow takes of a frame of the cycle.
-use Rattle.std.proofs.Common.{◌≡◌, ◌≢◌, refl, sym, ap, ◌∙◌, subst, ℕ, ◌+◌, ◌*◌, ◌/◌, ◌%◌, ◌<◌, ◌≤◌, true, false, [], List, Some}
-use Rattle.std.proofs.Common.{Option, map, length, if◌then◌else◌, ◌==◌, arith}
+use Rattle.std.proofs.Common.{◌≡◌, ◌≢◌, refl, sym, ap, ◌∙◌, ℕ, ◌+◌, ◌*◌, ◌/◌, ◌%◌, ◌<◌, ◌≤◌, true, false, [], Some}
+use Rattle.std.proofs.Common.{map, length}
 use Rattle.std.proofs.Math.Nat.{mod-eq_of_lt}
 use Rattle.std.proofs.lemmas.Bool.{ne_eqb}
 use Rattle.std.proofs.lemmas.Option.{MatchOption-at_some}
@@ -9,14 +9,13 @@ use Rattle.minislots.specs.Config.{IsLawful}
 use Rattle.sched_calls.specs.declared.state.FlowState.{FlowState}
 use Rattle.sched_calls.specs.declared.state.PlaceState.{PlaceState}
 use Rattle.sched_calls.specs.FlowSpec.{is_periodic, interval_frames, periodic_slots, grants_of}
-use Rattle.periodic.specs.declared.placement.Spot.{Spot}
-use Rattle.periodic.specs.Placement.{phase_of, starts_in, spots_of, spot_at, group_at}
+use Rattle.periodic.specs.Placement.{phase_of, starts_in, spot_at, group_at}
 use Rattle.periodic.proofs.Choosing.{starts-at}
 use Rattle.periodic.proofs.Groups.{group-fits, index-within}
 use Rattle.periodic.proofs.Parameters.{HasPlaces, places_of}
 use Rattle.channel_states.specs.PossibleFlow.{placement_of, IsPossiblePlace, IsPossibleFlow}
 use Rattle.channel_states.specs.PossiblePlaces.{placed_at}
-use Rattle.channel_states.specs.Taken.{spots_where, taken_by, spot_from}
+use Rattle.channel_states.specs.Taken.{taken_by, spot_from}
 use Rattle.channel_states.proofs.Places.{phase-is}
 
 -- a possible flow is periodic where it has a place, which is possible
@@ -44,7 +43,8 @@ module _ (c : Config) (entries next : ℕ) (f : FlowState) (at : PlaceState) (la
     takes-nothing other =
         let own = (own-place c entries next f at is here).1 in
         let phase = phase-is c at own.within_frame f.spec own.phase in
-        let differ : place % interval_frames c f.spec ≢ phase_of c f.spec (placement_of c at) = λ e. other (e ∙ phase) in
+        let differ : place % interval_frames c f.spec ≢ phase_of c f.spec (placement_of c at) =
+        λ e. other (e ∙ phase) in
         taken ∙ rw (ne_eqb (place % interval_frames c f.spec) (phase_of c f.spec (placement_of c at)) differ) refl
 
     -- the starts of a frame of its phase are a group of its starts

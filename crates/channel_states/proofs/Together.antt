@@ -1,12 +1,12 @@
 -- Spots of a frame that may stand together, one more of them, and flows with what they take.
-use Rattle.std.proofs.Common.{◌≡◌, refl, sym, ap, ◌∙◌, subst, ℕ, ◌+◌, ◌≤◌, List, [], ◌∷◌, ◌++◌, Option, None, Some, length, arith}
-use Rattle.std.proofs.Common.{length-append, append_assoc}
+use Rattle.std.proofs.Common.{◌≡◌, refl, ℕ, ◌+◌, ◌≤◌, List, [], ◌∷◌, ◌++◌, Option, None, Some, length, arith}
+use Rattle.std.proofs.Common.{length-append}
 use Rattle.std.specs.List.{AllByRecursion}
 use Rattle.minislots.specs.declared.config.Config.{Config}
 use Rattle.sched_calls.specs.declared.state.FlowState.{FlowState}
 use Rattle.periodic.specs.declared.placement.Spot.{Spot}
 use Rattle.periodic.specs.Placement.{Placed, spots_in}
-use Rattle.periodic.specs.Table.{IsApart, AreApart}
+use Rattle.periodic.specs.Table.{IsApart}
 use Rattle.periodic.proofs.Joined.{apart-append, apart-left, apart-between, all-weaker}
 use Rattle.channel_states.specs.PossiblePlaces.{placed_of, placed_in, MayStandTogether}
 use Rattle.channel_states.specs.Taken.{spots_where, taken_by}

@@ -1,5 +1,5 @@
 -- Which states a scheduler of a channel may be in.
-use Rattle.std.specs.Prelude.{◌≡◌, ℕ, ◌+◌, ◌%◌, ◌^◌, ◌<◌, ◌≤◌, Bool, true, false, not, ◌&&◌, ◌||◌, nat_lt, nat_le, ◌==◌}
+use Rattle.std.specs.Prelude.{◌≡◌, ℕ, ◌+◌, ◌%◌, ◌^◌, ◌<◌, ◌≤◌, Bool, true, false, ◌&&◌, ◌||◌, nat_lt, nat_le, ◌==◌}
 use Rattle.std.specs.Prelude.{List, [], ◌∷◌, length, sum_by, count_by, IfSome, min, unwrap_or}
 use Rattle.std.specs.List.{AllByRecursion}
 use Rattle.std.specs.Option.{option_map_or}
@@ -7,7 +7,8 @@ use Rattle.minislots.specs.declared.config.Config.{Config}
 use Rattle.sched_calls.specs.declared.call.TheConstants.{MAX_RESERVES}
 use Rattle.sched_calls.specs.declared.opportunity.Header.{Header}
 use Rattle.sched_calls.specs.declared.opportunity.Usage.{Usage}
-use Rattle.sched_calls.specs.declared.opportunity.Usage.TheVariants.{Initial, InitialTo, Station, Request, Quiet, DataTo}
+use Rattle.sched_calls.specs.declared.opportunity.Usage.TheVariants.{Initial, InitialTo, Station, Request}
+use Rattle.sched_calls.specs.declared.opportunity.Usage.TheVariants.{Quiet, DataTo}
 use Rattle.sched_calls.specs.declared.reply.TheConstants.{MAX_WHOLE_HISTORY}
 use Rattle.sched_calls.specs.declared.state.ChannelState.{ChannelState}
 use Rattle.sched_calls.specs.declared.state.FlowState.{FlowState}
@@ -58,8 +59,8 @@ waiting_from_before slot flows = count_by (waits_from_before slot) flows
 abbrev pub is_sid_of_flow : ℕ → Bool
 is_sid_of_flow sid = nat_le 1 sid && nat_le sid 8191
 
--- whether an opportunity of this usage goes to an SID that it may go to: requests may come from a modem, from those with
--- traffic of some priorities, and from all modems
+-- whether an opportunity of this usage goes to an SID that it may go to: requests may come from a modem, from those
+-- with traffic of some priorities, and from all modems
 abbrev pub has_sid : Usage → Bool
 has_sid Initial = true
 has_sid (InitialTo sid) = is_sid_of_flow sid

@@ -1,6 +1,6 @@
 -- What a live flow of a possible state is by itself: its parameters, bytes, levels, place and batches.
-use Rattle.std.specs.Prelude.{◌≡◌, ℕ, ◌+◌, ◌*◌, ◌/◌, ◌%◌, ◌<◌, ◌≤◌, ◌↔◌, min, true, false, Option, None, Some}
-use Rattle.std.specs.Prelude.{unwrap_or, IfSome, IfNone, MatchOption, [], IsNone}
+use Rattle.std.specs.Prelude.{◌≡◌, ℕ, ◌+◌, ◌*◌, ◌<◌, ◌≤◌, ◌↔◌, true, false, Option, None}
+use Rattle.std.specs.Prelude.{IfSome, IfNone, MatchOption, [], IsNone}
 use Rattle.minislots.specs.declared.TheConstants.{MAX_ASK}
 use Rattle.minislots.specs.declared.config.Config.{Config}
 use Rattle.sched_calls.specs.declared.placement.Placement.{Placement}
@@ -64,8 +64,8 @@ pub record IsPossiblePlace (c : Config) (spec : FlowSpec) (place : PlaceState) :
 
 -- there is such a place exactly where the flow is periodic
 abbrev pub HasPossiblePlace : Config → FlowState → Type 0
-HasPossiblePlace c f =
-    MatchOption f.place (is_periodic f.spec ≡ false) (λ place. (is_periodic f.spec ≡ true) × IsPossiblePlace c f.spec place)
+HasPossiblePlace c f = MatchOption f.place (is_periodic f.spec ≡ false)
+    (λ place. (is_periodic f.spec ≡ true) × IsPossiblePlace c f.spec place)
 
 -- The batches of a flow with bytes outstanding: some of the first are, it ends within what was asked, and behind it the
 -- second has the rest, where there is a rest. The requests of both were heard in described frames
@@ -80,8 +80,8 @@ pub record ArePossibleBatches (c : Config) (next : ℕ) (f : FlowState) (b : Bat
 abbrev pub HasPossibleBatches : Config → ℕ → FlowState → Type 0
 HasPossibleBatches c next f = MatchOption f.batches (f.asked ≡ f.granted) (ArePossibleBatches c next f)
 
--- A flow that may be live after so many entries, where the next frame starts there. Its SID is one that a flow may have,
--- and its parameters have no fault
+-- A flow that may be live after so many entries, where the next frame starts there. Its SID is one that a flow may
+-- have, and its parameters have no fault
 pub record IsPossibleFlow (c : Config) (entries next : ℕ) (f : FlowState) : Type 0 where
   pub sid_positive : 0 < f.sid
   pub sid_most : f.sid ≤ 8191

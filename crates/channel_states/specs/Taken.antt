@@ -1,5 +1,5 @@
 -- What flows take of one frame.
-use Rattle.std.specs.Prelude.{ℕ, List, [], Option, None, Some, take, map}
+use Rattle.std.specs.Prelude.{ℕ, List, [], Option, None, Some, take}
 use Rattle.minislots.specs.declared.config.Config.{Config}
 use Rattle.sched_calls.specs.FlowSpec.{size_of}
 use Rattle.sched_calls.specs.declared.state.FlowState.{FlowState}

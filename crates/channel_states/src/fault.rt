@@ -24,8 +24,8 @@ pub enum StateFault {
     /// There are more flows, or more grants per interval, than the configuration has it.
     #[error("number of the flows")]
     Limits,
-    /// The SID, parameters, bytes, last grant, levels, place or batches of a flow cannot be what they are: the first such
-    /// flow has this SID.
+    /// The SID, parameters, bytes, last grant, levels, place or batches of a flow cannot be what they are: the first
+    /// such flow has this SID.
     #[error("flow {0}")]
     Flow(u16),
     /// Two flows have a minislot in common, or a frame has too many starts.

@@ -123,7 +123,10 @@ impl Taken {
         ensures added { result ≡ true → taken_in self.new ≡ taken_in self.old ++ spot ∷ [] }
         ensures not { result ≡ false → MayStandTogether (taken_in self.old ++ spot ∷ []) → ⊥ }
     {
-        if self.count >= MAX_SPOTS || !is_apart(&self.spots[..self.count], spot) {
+        if self.count >= MAX_SPOTS {
+            return false;
+        }
+        if !is_apart(&self.spots[..self.count], spot) {
             return false;
         }
         self.spots[self.count] = spot;

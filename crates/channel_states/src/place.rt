@@ -59,7 +59,12 @@ fn may_rest(config: &Checked, spec: &FlowSpec, nominal: Nominal) -> bool
 }
 
 // Whether the starts of a place are lawful in each nominal frame of the cycle.
-fn has_lawful_starts(config: &Checked, spec: &FlowSpec, nominal: Nominal, place: &PlaceState) -> bool
+fn has_lawful_starts(
+    config: &Checked,
+    spec: &FlowSpec,
+    nominal: Nominal,
+    place: &PlaceState,
+) -> bool
     requires periodic { is_periodic spec.now ≡ true }
     requires no_fault { first_fault config.now spec.now ≡ None }
     requires nominal { IsNominalOf config.now spec.now nominal }

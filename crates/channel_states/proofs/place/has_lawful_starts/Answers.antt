@@ -1,8 +1,8 @@
 -- Each nominal frame has its lawful starts, or the first that has none says that the place has no lawful ones.
-use Rattle.std.proofs.Common.{◌≡◌, sym, ap, ◌∙◌, subst, refl, ℕ, ◌+◌, ◌*◌, ◌/◌, ◌<◌, ◌≤◌, arith, rules}
+use Rattle.std.proofs.Common.{◌≡◌, sym, ap, ◌∙◌, subst, refl, ◌+◌, ◌*◌, ◌/◌, ◌<◌, arith}
 use Rattle.minislots.proofs.Bounds.{bounds_of}
 use Rattle.periodic.proofs.Groups.{groups-most, range-group}
-use Rattle.periodic.proofs.Parameters.{HasPlaces, places_of}
+use Rattle.periodic.proofs.Parameters.{places_of}
 use Rattle.channel_states.specs.Nominal.{AreStartsFrom}
 use Rattle.channel_states.proofs.Places.{starts-lawful, starts-told}
 use Rattle.channel_states.proofs.place.has_lawful_starts.Goals as goal

@@ -1,22 +1,18 @@
 -- A spot is added where there is room and it is apart from all that are taken.
-use Rattle.std.proofs.Common.{◌≡◌, refl, ◌+◌, ◌++◌, [], ◌∷◌, set, take, length, arith, rules}
+use Rattle.std.proofs.Common.{refl, arith}
 use Rattle.std.proofs.lemmas.List.{length-take, take_more_set}
 use Rattle.channel_states.specs.Taken.{taken_in}
 use Rattle.channel_states.proofs.Together.{together-more, together-apart, together-room}
 use Rattle.channel_states.proofs.frame.Taken.add.Goals as goal
-use Rattle.channel_states.proofs.frame.Taken.add.Goals.{then-self-ge-MAX_SPOTS-via-then-self-ge-MAX_SPOTS}
-use Rattle.channel_states.proofs.frame.Taken.add.Goals.{then-self-ge-MAX_SPOTS-via-else-self-ge-MAX_SPOTS+then-not-is_apart}
 
 pub returns-then-self-ge-MAX_SPOTS-clause-not : goal.returns-then-self-ge-MAX_SPOTS-clause-not
 returns-then-self-ge-MAX_SPOTS-clause-not c = λ no all.
     let t = c.args.self.now in
-    let room = together-room (taken_in t) c.args.spot all in
-    elim c.then-self-ge-MAX_SPOTS.branch [
-      | then-self-ge-MAX_SPOTS-via-then-self-ge-MAX_SPOTS w ↦
-          omega (arith, room, length-take t.count t.spots, w.if-self-ge-MAX_SPOTS.true)
-      | then-self-ge-MAX_SPOTS-via-else-self-ge-MAX_SPOTS+then-not-is_apart w ↦
-          w.if-not-is_apart.ensures.not refl (together-apart (taken_in t) c.args.spot all)
-    ]
+    omega (arith, together-room (taken_in t) c.args.spot all, length-take t.count t.spots, c.if-self-ge-MAX_SPOTS.true)
+
+pub returns-then-not-is_apart-clause-not : goal.returns-then-not-is_apart-clause-not
+returns-then-not-is_apart-clause-not c = λ no all.
+    c.if-not-is_apart.ensures.not refl (together-apart (taken_in c.args.self.now) c.args.spot all)
 
 pub returns-clause-together : goal.returns-clause-together
 returns-clause-together c = λ yes.

@@ -1,5 +1,5 @@
 -- A flow takes nothing of a frame of another phase, and of one of its own a group of its starts.
-use Rattle.std.proofs.Common.{◌≡◌, refl, sym, ap, ◌∙◌, subst, ℕ, ◌+◌, ◌*◌, ◌/◌, ◌%◌, ◌<◌, ◌≤◌, ◌++◌, List, [], map, length}
+use Rattle.std.proofs.Common.{◌≡◌, refl, ap, ℕ, ◌+◌, ◌*◌, ◌/◌, ◌≤◌, List, map, length}
 use Rattle.std.proofs.Common.{slice_range, arith, rules}
 use Rattle.minislots.specs.declared.config.Config.{Config}
 use Rattle.minislots.proofs.Bounds.{bounds_of}
@@ -10,8 +10,7 @@ use Rattle.periodic.specs.Placement.{group_at}
 use Rattle.periodic.proofs.Groups.{range-group}
 use Rattle.channel_states.specs.declared.nominal.Nominal.{Nominal}
 use Rattle.channel_states.specs.Nominal.{IsNominalOf}
-use Rattle.channel_states.specs.PossiblePlaces.{MayStandTogether}
-use Rattle.channel_states.specs.Taken.{taken_in, taken_by, spot_from}
+use Rattle.channel_states.specs.Taken.{taken_by, spot_from}
 use Rattle.channel_states.proofs.Taking.{own-parts, takes-nothing, group-within, takes-group}
 use Rattle.channel_states.proofs.frame.Taken.add_flow.Goals as goal
 
@@ -22,9 +21,11 @@ fits : (c : Config) (f : FlowState) (at : PlaceState) (n : Nominal) (place : ℕ
 fits c f at n place is within = rw (is.interval, is.grants) within
 
 -- what it takes there
-takes : (c : Config) (f : FlowState) (at : PlaceState) (n : Nominal) (place : ℕ) (starts : List ℕ) → IsNominalOf c f.spec n
+takes : (c : Config) (f : FlowState) (at : PlaceState) (n : Nominal) (place : ℕ) (starts : List ℕ)
+    → IsNominalOf c f.spec n
     → starts ≡ at.starts → taken_by c place f
-    ≡ map (spot_from f (periodic_slots c f.spec)) (group_at (grants_of f.spec) (place / interval_frames c f.spec) at.starts)
+    ≡ map (spot_from f (periodic_slots c f.spec))
+    (group_at (grants_of f.spec) (place / interval_frames c f.spec) at.starts)
     → taken_by c place f ≡ map (spot_from f n.slots)
     (slice_range starts (place / n.interval * n.grants) (place / n.interval * n.grants + n.grants))
 takes c f at n place starts is same group =

@@ -1,5 +1,5 @@
 -- The first spot that may not stand beside what is taken says that not all may.
-use Rattle.std.proofs.Common.{◌≡◌, refl, sym, ap, ◌∙◌, subst, ◌+◌, ◌++◌, [], ◌∷◌, map, drop, append_assoc, arith}
+use Rattle.std.proofs.Common.{refl, sym, subst, ◌+◌, ◌++◌, [], ◌∷◌, map, drop, append_assoc, arith}
 use Rattle.std.proofs.lemmas.List.{drop_more}
 use Rattle.channel_states.specs.PossiblePlaces.{MayStandTogether}
 use Rattle.channel_states.specs.Taken.{taken_in, spot_from}

@@ -2,7 +2,7 @@
 use Rattle.std.proofs.Common.{rules}
 use Rattle.channel_states.specs.Possible.{IsPossible}
 use Rattle.channel_states.proofs.Sound.{sound-places}
-use Rattle.channel_states.proofs.fault_of.Goals as goal
+use Rattle.channel_states.proofs.possible.fault_of.Goals as goal
 
 pub stand_beside-requires : goal.stand_beside-requires
 stand_beside-requires c =
