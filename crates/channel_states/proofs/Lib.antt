@@ -1,0 +1,10 @@
+pub mod Left
+pub mod Orders
+pub mod Wrong
+pub mod Places
+pub mod Together
+pub mod Taking
+pub mod Sound
+pub mod Worked
+pub mod RowsPossible
+pub mod RowsImpossible

@@ -1,0 +1,12 @@
+pub use Rattle.minislots.specs.Config
+pub use Rattle.minislots.specs.Units
+pub use Rattle.sched_calls.specs.FlowSpec
+pub use Rattle.sched_calls.specs.Sids
+pub use Rattle.periodic.specs.Placement
+pub use Rattle.periodic.specs.Table
+pub mod PossibleFlow
+pub mod PossiblePlaces
+pub mod Nominal
+pub mod Taken
+pub mod Possible
+pub mod Faults
