@@ -1,15 +1,15 @@
 -- The numbers of a legal history fit the types of their fields where those of its calls do, and no reply is long.
 use Rattle.std.proofs.Common.{◌≡◌, ℕ, ◌+◌, ◌*◌, ◌^◌, ◌<◌, ◌≤◌, Bool, true, false, cond, if◌then◌else◌, find, ◌==◌}
-use Rattle.std.proofs.Common.{List, [], ◌∷◌, length, Option, None, Some, refl, sym, ap, ◌∙◌, subst, inl, inr, arith}
+use Rattle.std.proofs.Common.{List, [], ◌∷◌, length, slice_index, Option, None, Some, refl, sym, ap, ◌∙◌, subst, inl, inr, arith}
 use Rattle.std.specs.List.{AllByRecursion}
-use Rattle.std.specs.Option.{option_map, IsSomeAnd, MatchOption}
+use Rattle.std.specs.Option.{IsSomeAnd, MatchOption}
 use Rattle.minislots.specs.declared.config.Config.{Config}
 use Rattle.minislots.specs.Config.{IsLawful}
 use Rattle.minislots.proofs.Bounds.{bounds_of}
 use Rattle.sched_calls.specs.declared.spec.FlowSpec.{FlowSpec}
 use Rattle.sched_calls.specs.declared.spec.FlowSpec.TheVariants.{Unsolicited, Polled, BestEffort}
 use Rattle.sched_calls.specs.FlowSpec.{has_place_of, takes_requests}
-use Rattle.flow_book.specs.Flows.{LiveFlow, granted, outstanding}
+use Rattle.flow_book.specs.Flows.{LiveFlow, flow_of, granted, outstanding}
 use Rattle.sched_calls.specs.declared.placement.Placement.{Placement}
 use Rattle.periodic.specs.Placement.{Placed, IsPlacement, IsToldFrom}
 use Rattle.periodic.specs.Table.{without}
@@ -22,18 +22,19 @@ use Rattle.sched_calls.specs.declared.reply.Reply.{Reply}
 use Rattle.sched_calls.specs.declared.reply.Reply.TheVariants as replies
 use Rattle.sched_calls.specs.declared.reply.Entry.{Entry}
 use Rattle.sched_calls.specs.declared.reply.TheConstants.{MAX_WHOLE_HISTORY}
-use Rattle.sched_history.specs.Life.{Admission, Life, life_of, given_in, flow_in_life, flows_of, table_of}
-use Rattle.sched_history.specs.Time.{next_after, progress_of, IsFirstStart}
+use Rattle.sched_history.specs.Life.{Admission, flows_of, table_of}
+use Rattle.sched_history.specs.Time.{next_after, IsFirstStart}
+use Rattle.sched_history.specs.Situation.{situation_of, given_of}
 use Rattle.sched_history.specs.Refusal.{refusal_of, most_bytes}
 use Rattle.sched_history.specs.History.{PlacesOrRefuses, AnswersAdmit, PlacesAnew, AnswersChange, flow_status, Answers}
 use Rattle.sched_history.specs.History.{IsStep, IsLegal}
 use Rattle.sched_history.specs.Facts.{IsWithinAsked}
-use Rattle.sched_history.proofs.lives.Finding.{good_sid, flow_of-flows_of}
+use Rattle.sched_history.proofs.lives.Left.{progress-below}
 use Rattle.sched_history.proofs.facts.Orderly.{next_orderly}
 use Rattle.sched_history.proofs.facts.SoundLives.{within_asked}
 use Rattle.sched_history.proofs.steps.LegalBounds.{next_after-most, flows_of-asked}
-use Rattle.sched_history.proofs.placements.PlacedLives.{WasPlacedIn, lives_placed}
-use Rattle.sched_history.proofs.steps.Passed.{passed-admit, passed-change, passed-status, passed-skip}
+use Rattle.sched_history.proofs.placements.PlacedLives.{WasPlacedIn, given_placed}
+use Rattle.sched_history.proofs.steps.Passed.{passed-admit, passed-change, passed-skip}
 use Rattle.sched_history.proofs.time.FirstStarts.{first_start-near}
 use Rattle.history_writing.specs.Fits.{CallFits, ConfigFits, PlacementFits, ReplyFits}
 use Rattle.laws.proofs.EntryRoom.{IsShort}
@@ -64,8 +65,9 @@ module _ (c : Config) (lawful : IsLawful c) (config_fits : ConfigFits c) (h : Li
   next-small : next_after c h < 2 ^ 64
   next-small = omega (arith, next_after-most c lawful h legal)
 
-  progress-small : (receiver : ℕ) → progress_of c receiver h < 2 ^ 64
-  progress-small receiver = omega (arith, next_after-most c lawful h legal, progress_of-most c h legal receiver)
+  progress-small : (receiver : ℕ) → slice_index (situation_of c h).progress receiver < 2 ^ 64
+  progress-small = progress-below c h (2 ^ 64) (omega arith)
+      (λ receiver. omega (arith, next_after-most c lawful h legal, progress_of-most c h legal receiver))
 
   -- a placement that was lawful beside some flows, from the next frame on
   place-good : (table : List Placed) (spec : FlowSpec) (p : Placement) → HasPlaces c spec
@@ -80,7 +82,7 @@ module _ (c : Config) (lawful : IsLawful c) (config_fits : ConfigFits c) (h : Li
         starts-few c bounds table spec places (next_after c h) p lawful_place,
       )
 
-  placed-good : (spec : FlowSpec) (reply : Reply) → HasPlaces c spec → PlacesOrRefuses c h spec reply → IsGood reply
+  placed-good : (spec : FlowSpec) (reply : Reply) → HasPlaces c spec → PlacesOrRefuses c (situation_of c h) spec reply → IsGood reply
   placed-good spec reply places (inl (p, lawful_place, is)) =
       let good = place-good (table_of h) spec p places lawful_place in
       subst IsGood (sym is) (record { fits = good.0; short = good.1 })
@@ -93,7 +95,7 @@ module _ (c : Config) (lawful : IsLawful c) (config_fits : ConfigFits c) (h : Li
       let good = place-good table spec p places lawful_place in
       subst IsGood (sym is) (record { fits = good.0; short = good.1 })
 
-  anew-good : (sid : ℕ) (spec : FlowSpec) (reply : Reply) → HasPlaces c spec → PlacesAnew c h sid spec reply
+  anew-good : (sid : ℕ) (spec : FlowSpec) (reply : Reply) → HasPlaces c spec → PlacesAnew c (situation_of c h) sid spec reply
       → IsGood reply
   anew-good sid spec reply places (inl (p, lawful_place, is)) =
       moved-good (without sid (table_of h)) spec p reply places lawful_place is
@@ -114,32 +116,33 @@ module _ (c : Config) (lawful : IsLawful c) (config_fits : ConfigFits c) (h : Li
 
   given-good : (sid : ℕ) (given : Admission) (spec : FlowSpec) (reply : Reply)
       → refusal_of c h (calls.Change sid spec) ≡ None → WasPlacedIn c (next_after c h) given
-      → AnswersChange c h sid given spec reply → IsGood reply
+      → AnswersChange c (situation_of c h) sid given spec reply → IsGood reply
   given-good sid given spec reply none was (inl (same, (p, told, is))) =
       let periodic = (alike-placed c given.spec spec same).periodic in
-      let places = places_of c spec lawful periodic (passed-change c h sid spec none).no_fault in
+      let places = places_of c spec lawful periodic (passed-change c (situation_of c h) sid spec none).no_fault in
       let kept = kept-placed given spec p given.placement refl was same told in
       moved-good kept.0 spec p reply places kept.1 is
   given-good sid given spec reply none was (inr (inl (other, periodic, answers))) =
-      anew-good sid spec reply (places_of c spec lawful periodic (passed-change c h sid spec none).no_fault) answers
+      anew-good sid spec reply (places_of c spec lawful periodic (passed-change c (situation_of c h) sid spec none).no_fault) answers
   given-good sid given spec reply none was (inr (inr (aperiodic, is))) =
       subst IsGood (sym is) (record { fits = tt; short = tt })
 
-  change-good : (sid : ℕ) (spec : FlowSpec) (life : Option Life) (reply : Reply) → life_of sid h ≡ life
-      → refusal_of c h (calls.Change sid spec) ≡ None
-      → MatchOption life ⊥ (λ l. AnswersChange c h sid (given_in sid l) spec reply) → IsGood reply
+  change-good : (sid : ℕ) (spec : FlowSpec) (o : Option Admission) (reply : Reply)
+      → given_of sid (situation_of c h) ≡ o → refusal_of c h (calls.Change sid spec) ≡ None
+      → MatchOption o ⊥ (λ given. AnswersChange c (situation_of c h) sid given spec reply) → IsGood reply
   change-good sid spec None reply is none answers = absurd answers
-  change-good sid spec (Some life) reply is none answers =
-      given-good sid (given_in sid life) spec reply none (lives_placed c h legal sid life is) answers
+  change-good sid spec (Some given) reply is none answers =
+      let good = (passed-change c (situation_of c h) sid spec none).known.good in
+      given-good sid given spec reply none (given_placed c h legal sid good given is) answers
 
   admit-good : (sid : ℕ) (spec : FlowSpec) (reply : Reply) → refusal_of c h (calls.Admit sid spec) ≡ None
-      → AnswersAdmit c h spec reply → IsGood reply
+      → AnswersAdmit c (situation_of c h) spec reply → IsGood reply
   admit-good sid (Unsolicited size interval jitter grants) reply none answers =
       let spec = Unsolicited size interval jitter grants in
-      placed-good spec reply (places_of c spec lawful refl (passed-admit c h sid spec none).no_fault) answers
+      placed-good spec reply (places_of c spec lawful refl (passed-admit c (situation_of c h) sid spec none).no_fault) answers
   admit-good sid (Polled interval jitter rate burst peak) reply none answers =
       let spec = Polled interval jitter rate burst peak in
-      placed-good spec reply (places_of c spec lawful refl (passed-admit c h sid spec none).no_fault) answers
+      placed-good spec reply (places_of c spec lawful refl (passed-admit c (situation_of c h) sid spec none).no_fault) answers
   admit-good sid (BestEffort priority rate burst peak reserved reserved-burst) reply none answers =
       subst IsGood (sym answers) (record { fits = tt; short = tt })
 
@@ -150,18 +153,13 @@ module _ (c : Config) (lawful : IsLawful c) (config_fits : ConfigFits c) (h : Li
       record { fits = (all, omega (arith, all, within), omega (arith, all)); short = tt }
   sums-good f false asked within = record { fits = (omega arith, omega arith, omega arith); short = tt }
 
-  live-good : (sid : ℕ) (life : Option Life) (reply : Reply) → life_of sid h ≡ life
-      → refusal_of c h (calls.Status sid) ≡ None
-      → MatchOption life ⊥ (λ l. reply ≡ flow_status (flow_in_life c sid l)) → IsGood reply
-  live-good sid None reply is none answers = absurd answers
-  live-good sid (Some life) reply is none answers =
-      let f : LiveFlow = flow_in_life c sid life in
-      let good = good_sid sid (passed-status c h sid none).good in
-      let found : find (λ f. f.sid == sid) (flows_of c h) ≡ Some f =
-      flow_of-flows_of c sid h good.0 good.1 ∙ ap (option_map (flow_in_life c sid)) is in
+  live-good : (sid : ℕ) (o : Option LiveFlow) (reply : Reply) → flow_of sid (flows_of c h) ≡ o
+      → MatchOption o ⊥ (λ f. reply ≡ flow_status f) → IsGood reply
+  live-good sid None reply is answers = absurd answers
+  live-good sid (Some f) reply is answers =
       let asked = found-holds (λ f. f.asked ≤ most_bytes * length h) (λ f. f.sid == sid) (flows_of c h) f
-      (flows_of-asked c lawful h legal) found in
-      let within = found-holds IsWithinAsked (λ f. f.sid == sid) (flows_of c h) f (within_asked c h legal) found in
+      (flows_of-asked c lawful h legal) is in
+      let within = found-holds IsWithinAsked (λ f. f.sid == sid) (flows_of c h) f (within_asked c h legal) is in
       subst IsGood (sym answers) (sums-good f (takes_requests f.spec) asked within)
 
   plain-good : (reply said : Reply) → reply ≡ said → IsGood said → IsGood reply
@@ -172,7 +170,7 @@ module _ (c : Config) (lawful : IsLawful c) (config_fits : ConfigFits c) (h : Li
   skip-good now start none first =
       let bounds = bounds_of c lawful in
       let near = first_start-near c (now + c.lead) (omega (arith, bounds.frame_least)) start first in
-      let clock = (passed-skip c h now none).clock in
+      let clock = (passed-skip c (situation_of c h) now none).clock in
       record { fits = omega (arith, near, clock, bounds.lead_most); short = tt }
 
   answer-good : (call : Call) (reply : Reply) → refusal_of c h call ≡ None → Answers c h call reply → IsGood reply
@@ -191,14 +189,15 @@ module _ (c : Config) (lawful : IsLawful c) (config_fits : ConfigFits c) (h : Li
       })
   answer-good (calls.Skip now) reply none (start, first, is) =
       plain-good reply (replies.Skipped start) is (skip-good now start none first)
-  answer-good (calls.Status sid) reply none answers = live-good sid (life_of sid h) reply refl none answers
+  answer-good (calls.Status sid) reply none answers = live-good sid (flow_of sid (flows_of c h)) reply refl answers
   answer-good (calls.Reserve usage slots) reply none answers =
       plain-good reply replies.Reserved answers (record { fits = tt; short = tt })
   answer-good (calls.Header header) reply none answers =
       plain-good reply replies.Noted answers (record { fits = tt; short = tt })
   answer-good (calls.Replace receiver sid amount heard) reply none answers =
       plain-good reply replies.Taken answers (record { fits = tt; short = tt })
-  answer-good (calls.Change sid spec) reply none answers = change-good sid spec (life_of sid h) reply refl none answers
+  answer-good (calls.Change sid spec) reply none answers =
+      change-good sid spec (given_of sid (situation_of c h)) reply refl none answers
   answer-good (calls.Rest sid) reply none answers =
       plain-good reply replies.Noted answers (record { fits = tt; short = tt })
   answer-good (calls.Wake sid) reply none answers =
@@ -212,7 +211,7 @@ module _ (c : Config) (lawful : IsLawful c) (config_fits : ConfigFits c) (h : Li
   step-good call reply None is step = answer-good call reply is step
   step-good call reply (Some refusal) is step =
       plain-good reply (replies.Refused refusal) step
-      (refused-good refusal (refusal_fits c h next-small progress-small call refusal is))
+      (refused-good refusal (refusal_fits c (situation_of c h) next-small progress-small call refusal is))
 
   -- the reply that may follow is good
   pub reply-good : (call : Call) (reply : Reply) → IsStep c h call reply → IsGood reply

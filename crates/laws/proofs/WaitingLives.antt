@@ -18,6 +18,7 @@ use Rattle.sched_calls.specs.declared.reply.Entry.{Entry}
 use Rattle.sched_history.specs.Life.{Admission, Turn, Begins, Ends, turn_by, Life, life_of, added_by, replaced_by}
 use Rattle.sched_history.specs.Latest.{latest}
 use Rattle.sched_history.specs.Life.{asked_in, grants_by, grants_since, batches_by, batches_in}
+use Rattle.sched_history.specs.Situation.{situation_of}
 use Rattle.sched_history.specs.Refusal.{bad_sid}
 use Rattle.sched_history.specs.History.{IsStep, IsLegal}
 use Rattle.sched_history.proofs.steps.LegalHistories.{accepted, legal_induction}
@@ -75,7 +76,7 @@ AsksSome c call reply = Unit {0}
 
 asks_some : (c : Config) (h : List Entry) (call : Call) (reply : Reply) → IsStep c h call reply → AsksSome c call reply
 asks_some c h (calls.Ask receiver sid amount heard) replies.Taken step =
-    (passed-ask c h receiver sid amount heard
+    (passed-ask c (situation_of c h) receiver sid amount heard
     (accepted c h (calls.Ask receiver sid amount heard) replies.Taken (λ r refuses. cc) step).0).some_bytes
 asks_some c h call reply step = tt
 
@@ -99,7 +100,7 @@ begins-good c h sid (calls.Admit other spec) (replies.Admitted placement) admiss
     let test : (other == sid) ≡ true = own_turn (other == sid) turn is in
     let same : other ≡ sid = grind (arith, nat_tests) in
     subst (λ s. bad_sid s ≡ false) same
-    (passed-admit c h other spec
+    (passed-admit c (situation_of c h) other spec
     (accepted c h (calls.Admit other spec) (replies.Admitted placement) (λ r refuses. cc) step).0).good
 begins-good c h sid (calls.Remove other) replies.Removed admission is step =
     absurd (ends_no (other == sid) admission is)

@@ -11,7 +11,7 @@ use Rattle.minislots.specs.declared.stamp.Stamp.{Stamp}
 use Rattle.sched_calls.specs.declared.spec.FlowSpec.{FlowSpec}
 use Rattle.sched_calls.specs.declared.spec.FlowSpec.TheVariants.{Unsolicited, Polled, BestEffort}
 use Rattle.sched_calls.specs.FlowSpec.{is_periodic, takes_requests, interval_frames, first_fault}
-use Rattle.flow_book.specs.Flows.{LiveFlow}
+use Rattle.flow_book.specs.Flows.{LiveFlow, flow_of}
 use Rattle.sched_calls.specs.declared.placement.Placement.{Placement}
 use Rattle.periodic.specs.Placement.{Placed, IsPlacement, IsToldFrom}
 use Rattle.periodic.proofs.Joined.{all-append}
@@ -23,15 +23,16 @@ use Rattle.sched_calls.specs.declared.reply.Refusal.{Refusal}
 use Rattle.sched_calls.specs.declared.reply.Reply.{Reply}
 use Rattle.sched_calls.specs.declared.reply.Reply.TheVariants as replies
 use Rattle.sched_calls.specs.declared.reply.Entry.{Entry}
-use Rattle.sched_history.specs.Life.{Admission, Life, life_of, given_in, flow_in_life}
+use Rattle.sched_history.specs.Life.{Admission, flows_of}
 use Rattle.sched_history.specs.Time.{next_after}
-use Rattle.sched_history.specs.Refusal.{refusal_of}
+use Rattle.sched_history.specs.Situation.{situation_of, given_of}
+use Rattle.sched_history.specs.Refusal.{bad_sid, refusal_of}
 use Rattle.sched_history.specs.History.{PlacesOrRefuses, PlacesAnew, AnswersChange, Answers, IsStep, IsLegal}
 use Rattle.sched_history.specs.History.{flow_status}
 use Rattle.sched_history.specs.Machine.{Machine}
 use Rattle.sched_history.proofs.steps.LegalHistories.{legal_induction}
 use Rattle.sched_history.proofs.steps.Passed.{passed-admit, passed-change}
-use Rattle.sched_history.proofs.placements.PlacedLives.{WasPlacedIn, lives_placed}
+use Rattle.sched_history.proofs.placements.PlacedLives.{WasPlacedIn, given_placed}
 use Rattle.mapsched_c.specs.Reply.{HasRoom}
 
 module _ (c : Config) (conf : IsLawful c) where
@@ -46,18 +47,18 @@ module _ (c : Config) (conf : IsLawful c) where
 
   placing_room : (h : List Entry) (spec : FlowSpec) (reply : Reply) → is_periodic spec ≡ true
       → first_fault c spec ≡ None
-      → PlacesOrRefuses c h spec reply → HasRoom reply
+      → PlacesOrRefuses c (situation_of c h) spec reply → HasRoom reply
   placing_room h spec reply periodic none (inl (p, is, e)) = rw e (placed_room _ _ spec p periodic none is)
   placing_room h spec reply periodic none (inr (nowhere, e)) = rw e tt
 
   admitted_room : (h : List Entry) (sid : ℕ) (spec : FlowSpec) (reply : Reply) → refusal_of c h (Admit sid spec) ≡ None
-      → is_periodic spec ≡ true → PlacesOrRefuses c h spec reply → HasRoom reply
+      → is_periodic spec ≡ true → PlacesOrRefuses c (situation_of c h) spec reply → HasRoom reply
   admitted_room h sid spec reply passed periodic is =
-      placing_room h spec reply periodic (passed-admit c h sid spec passed).no_fault is
+      placing_room h spec reply periodic (passed-admit c (situation_of c h) sid spec passed).no_fault is
 
   anew_room : (h : List Entry) (sid : ℕ) (spec : FlowSpec) (reply : Reply) → is_periodic spec ≡ true
       → first_fault c spec ≡ None
-      → PlacesAnew c h sid spec reply → HasRoom reply
+      → PlacesAnew c (situation_of c h) sid spec reply → HasRoom reply
   anew_room h sid spec reply periodic none (inl (p, is, e)) = rw e (placed_room _ _ spec p periodic none is)
   anew_room h sid spec reply periodic none (inr (nowhere, e)) = rw e tt
 
@@ -71,7 +72,7 @@ module _ (c : Config) (conf : IsLawful c) where
       rw told.starts (placed_room placed.table placed.since given.spec stands placed.periodic placed.faultless placed.lawful)
 
   given_room : (h : List Entry) (sid : ℕ) (given : Admission) (spec : FlowSpec) (reply : Reply)
-      → WasPlacedIn c (next_after c h) given → first_fault c spec ≡ None → AnswersChange c h sid given spec reply
+      → WasPlacedIn c (next_after c h) given → first_fault c spec ≡ None → AnswersChange c (situation_of c h) sid given spec reply
       → HasRoom reply
   given_room h sid given spec reply was none (inl (same, (p, told, e))) =
       rw e (kept_room (next_after c h) (next_after c h) given spec given.placement p refl was told)
@@ -79,22 +80,21 @@ module _ (c : Config) (conf : IsLawful c) where
       anew_room h sid spec reply periodic none is
   given_room h sid given spec reply was none (inr (inr (aperiodic, e))) = rw e tt
 
-  changed_room : (h : List Entry) (sid : ℕ) (spec : FlowSpec) (o : Option Life) (reply : Reply) → life_of sid h ≡ o
-      → IsLegal c h → first_fault c spec ≡ None
-      → MatchOption o ⊥ (λ life. AnswersChange c h sid (given_in sid life) spec reply) → HasRoom reply
-  changed_room h sid spec None reply lives legal none is = absurd is
-  changed_room h sid spec (Some life) reply lives legal none is =
-      given_room h sid (given_in sid life) spec reply (lives_placed c h legal sid life lives) none is
+  changed_room : (h : List Entry) (sid : ℕ) (spec : FlowSpec) (o : Option Admission) (reply : Reply)
+      → given_of sid (situation_of c h) ≡ o → bad_sid sid ≡ false → IsLegal c h → first_fault c spec ≡ None
+      → MatchOption o ⊥ (λ given. AnswersChange c (situation_of c h) sid given spec reply) → HasRoom reply
+  changed_room h sid spec None reply has good legal none is = absurd is
+  changed_room h sid spec (Some given) reply has good legal none is =
+      given_room h sid given spec reply (given_placed c h legal sid good given has) none is
 
   status_room : (f : LiveFlow) (b : Bool) → takes_requests f.spec ≡ b → (reply : Reply) → reply ≡ flow_status f
       → HasRoom reply
   status_room f true is reply e = rw e (rw is tt)
   status_room f false is reply e = rw e (rw is tt)
 
-  life_room : (sid : ℕ) (o : Option Life) (reply : Reply)
-      → MatchOption o ⊥ (λ life. reply ≡ flow_status (flow_in_life c sid life)) → HasRoom reply
-  life_room sid None reply said = absurd said
-  life_room sid (Some life) reply e = status_room (flow_in_life c sid life) _ refl reply e
+  live_room : (o : Option LiveFlow) (reply : Reply) → MatchOption o ⊥ (λ f. reply ≡ flow_status f) → HasRoom reply
+  live_room None reply said = absurd said
+  live_room (Some f) reply e = status_room f _ refl reply e
 
   answer_room : (h : List Entry) (call : Call) (reply : Reply) → IsLegal c h → refusal_of c h call ≡ None
       → Answers c h call reply
@@ -109,12 +109,13 @@ module _ (c : Config) (conf : IsLawful c) where
   answer_room h (Heard receiver upto) reply legal passed e = rw e tt
   answer_room h (Build now) reply legal passed (m, is, e) = rw e tt
   answer_room h (Skip now) reply legal passed (start, is, e) = rw e tt
-  answer_room h (Status sid) reply legal passed is = life_room sid (life_of sid h) reply is
+  answer_room h (Status sid) reply legal passed is = live_room (flow_of sid (flows_of c h)) reply is
   answer_room h (Reserve usage slots) reply legal passed e = rw e tt
   answer_room h (Header header) reply legal passed e = rw e tt
   answer_room h (Replace receiver sid amount heard) reply legal passed e = rw e tt
   answer_room h (Change sid spec) reply legal passed is =
-      changed_room h sid spec (life_of sid h) reply refl legal (passed-change c h sid spec passed).no_fault is
+      let may = passed-change c (situation_of c h) sid spec passed in
+      changed_room h sid spec (given_of sid (situation_of c h)) reply refl may.known.good legal may.no_fault is
   answer_room h (Rest sid) reply legal passed e = rw e tt
   answer_room h (Wake sid) reply legal passed e = rw e tt
 

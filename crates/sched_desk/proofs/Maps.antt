@@ -7,7 +7,7 @@ use Rattle.minislots.specs.declared.config.Config.{Config}
 use Rattle.sched_calls.specs.declared.spec.FlowSpec.{FlowSpec}
 use Rattle.sched_calls.specs.declared.spec.FlowSpec.TheVariants.{Unsolicited, Polled, BestEffort}
 use Rattle.sched_calls.specs.FlowSpec.{takes_requests}
-use Rattle.flow_book.specs.Flows.{LiveFlow, granted, outstanding}
+use Rattle.flow_book.specs.Flows.{LiveFlow, flow_of, granted, outstanding}
 use Rattle.sched_calls.specs.declared.frame_map.FrameMap.{FrameMap}
 use Rattle.map_build.specs.EachAfter.{EachAfter}
 use Rattle.sched_calls.specs.declared.call.Call.{Call}
@@ -16,8 +16,9 @@ use Rattle.sched_calls.specs.declared.reply.Refusal.{Refusal}
 use Rattle.sched_calls.specs.declared.reply.Reply.{Reply}
 use Rattle.sched_calls.specs.declared.reply.Reply.TheVariants as replies
 use Rattle.sched_calls.specs.declared.reply.Entry.{Entry}
-use Rattle.sched_history.specs.Life.{Admission, Life, life_of, given_in, flow_in_life}
+use Rattle.sched_history.specs.Life.{Admission, flows_of}
 use Rattle.sched_history.specs.Time.{is_built}
+use Rattle.sched_history.specs.Situation.{situation_of, given_of}
 use Rattle.sched_history.specs.Refusal.{refusal_of}
 use Rattle.sched_history.specs.History.{PlacesOrRefuses, AnswersAdmit, PlacesAnew, AnswersChange, flow_status, map_by}
 use Rattle.sched_history.specs.History.{IsNextMap, Answers, IsStep, IsLegal}
@@ -38,26 +39,26 @@ module _ (c : Config) (h : List Entry) (m : FrameMap) where
       by false = refl
 
   -- nor is the answer to an admission
-  placed : (spec : FlowSpec) → PlacesOrRefuses c h spec (replies.Built m) → IsNextMap c h m
+  placed : (spec : FlowSpec) → PlacesOrRefuses c (situation_of c h) spec (replies.Built m) → IsNextMap c h m
   placed spec answers = ⊎_elim
       (λ one. not_built (replies.Admitted (Some one.0)) refl one.2)
       (λ none_there. not_built (replies.Refused _) refl none_there.1)
       answers
 
-  admitted : (spec : FlowSpec) → AnswersAdmit c h spec (replies.Built m) → IsNextMap c h m
+  admitted : (spec : FlowSpec) → AnswersAdmit c (situation_of c h) spec (replies.Built m) → IsNextMap c h m
   admitted (Unsolicited size interval jitter grants) answers = placed (Unsolicited size interval jitter grants) answers
   admitted (Polled interval jitter rate burst peak) answers = placed (Polled interval jitter rate burst peak) answers
   admitted (BestEffort priority rate burst peak reserved reserved-burst) answers =
       not_built (replies.Admitted None) refl answers
 
   -- or to a change
-  placed_anew : (sid : ℕ) (spec : FlowSpec) → PlacesAnew c h sid spec (replies.Built m) → IsNextMap c h m
+  placed_anew : (sid : ℕ) (spec : FlowSpec) → PlacesAnew c (situation_of c h) sid spec (replies.Built m) → IsNextMap c h m
   placed_anew sid spec answers = ⊎_elim
       (λ one. not_built (replies.Changed (Some one.0)) refl one.2)
       (λ none_there. not_built (replies.Refused _) refl none_there.1)
       answers
 
-  given : (sid : ℕ) (a : Admission) (spec : FlowSpec) → AnswersChange c h sid a spec (replies.Built m) → IsNextMap c h m
+  given : (sid : ℕ) (a : Admission) (spec : FlowSpec) → AnswersChange c (situation_of c h) sid a spec (replies.Built m) → IsNextMap c h m
   given sid a spec answers = ⊎_elim
       (λ kept. not_built (replies.Changed (Some kept.1.0)) refl kept.1.2)
       (λ moved. ⊎_elim
@@ -66,17 +67,14 @@ module _ (c : Config) (h : List Entry) (m : FrameMap) where
       moved)
       answers
 
-  changed : (life : Option Life) (sid : ℕ) (spec : FlowSpec)
-      → MatchOption life ⊥ (λ l. AnswersChange c h sid (given_in sid l) spec (replies.Built m)) → IsNextMap c h m
+  changed : (o : Option Admission) (sid : ℕ) (spec : FlowSpec)
+      → MatchOption o ⊥ (λ a. AnswersChange c (situation_of c h) sid a spec (replies.Built m)) → IsNextMap c h m
   changed None sid spec answers = absurd answers
-  changed (Some l) sid spec answers = given sid (given_in sid l) spec answers
+  changed (Some a) sid spec answers = given sid a spec answers
 
-  status : (life : Option Life) (sid : ℕ) → MatchOption life ⊥ (λ l. replies.Built m
-      ≡ flow_status (flow_in_life c sid l))
-      → IsNextMap c h m
-  status None sid answers = absurd answers
-  status (Some l) sid answers =
-      not_built (flow_status (flow_in_life c sid l)) (status-not_built (flow_in_life c sid l)) answers
+  status : (o : Option LiveFlow) → MatchOption o ⊥ (λ f. replies.Built m ≡ flow_status f) → IsNextMap c h m
+  status None answers = absurd answers
+  status (Some f) answers = not_built (flow_status f) (status-not_built f) answers
 
   -- a MAP that is answered is the lawful one
   answered : (call : Call) → Answers c h call (replies.Built m) → IsNextMap c h m
@@ -87,11 +85,11 @@ module _ (c : Config) (h : List Entry) (m : FrameMap) where
   answered (calls.Build now) answers =
       subst (IsNextMap c h) (same_Some answers.0 m (ap map_by (sym answers.2))) answers.1
   answered (calls.Skip now) answers = not_built (replies.Skipped answers.0) refl answers.2
-  answered (calls.Status sid) answers = status (life_of sid h) sid answers
+  answered (calls.Status sid) answers = status (flow_of sid (flows_of c h)) answers
   answered (calls.Reserve usage slots) answers = not_built replies.Reserved refl answers
   answered (calls.Header header) answers = not_built replies.Noted refl answers
   answered (calls.Replace receiver sid amount heard) answers = not_built replies.Taken refl answers
-  answered (calls.Change sid spec) answers = changed (life_of sid h) sid spec answers
+  answered (calls.Change sid spec) answers = changed (given_of sid (situation_of c h)) sid spec answers
   answered (calls.Rest sid) answers = not_built replies.Noted refl answers
   answered (calls.Wake sid) answers = not_built replies.Noted refl answers
 

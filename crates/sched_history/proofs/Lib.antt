@@ -7,6 +7,7 @@ pub mod reserves
 pub mod settling
 pub mod plans
 pub mod placements
+pub mod situations
 pub mod facts
 pub mod state
 pub mod rows

@@ -2,4 +2,5 @@
 pub mod LivesAfter
 pub mod Finding
 pub mod FlowsAfter
+pub mod Left
 pub mod LiveFlows

@@ -37,7 +37,7 @@ use Rattle.sched_history.specs.Time.{ack_after, next_after}
 use Rattle.sched_history.specs.Reserves.{header_after, met_after}
 use Rattle.sched_history.specs.Refusal.{bad_sid}
 pub use Rattle.sched_history.specs.Settling.{maps_of}
-use Rattle.sched_history.specs.Settling.{is_quiet, settles_after}
+use Rattle.sched_history.specs.Settling.{is_quiet, settles_after, settles_by_any}
 use Rattle.sched_history.specs.Ranging.{HoldsForRanging}
 
 -- the flow was granted no more bytes than it asked
@@ -135,7 +135,7 @@ IsHeardAfter maps call reply = Unit {0}
 
 -- the MAP of a reply settles exactly where it is to, after these entries
 abbrev pub SettlesInTime : Config → List Entry → Reply → Type 0
-SettlesInTime c before (Built m) = is_quiet m.wire.elements ≡ settles_after c before
+SettlesInTime c before (Built m) = is_quiet m.wire.elements ≡ settles_by_any c before
 SettlesInTime c before reply = Unit {0}
 
 -- a flow that may be served at this minislot, in so many minislots, is under its reservation

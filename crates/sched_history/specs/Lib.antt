@@ -12,6 +12,7 @@ pub mod Time
 pub mod Headers
 pub mod Settling
 pub mod Reserves
+pub mod Situation
 pub mod Refusal
 pub mod History
 pub use Rattle.sched_calls.specs.Reply

@@ -12,8 +12,8 @@ use Rattle.sched_calls.specs.declared.call.Call.TheVariants.{Admit, Remove, Ask,
 use Rattle.sched_calls.specs.declared.call.Call.TheVariants.{Reserve, Header, Replace, Change, Rest, Wake}
 use Rattle.sched_calls.specs.declared.reply.TheConstants.{MAX_WHOLE_HISTORY}
 use Rattle.sched_calls.specs.declared.reply.Entry.{Entry}
-use Rattle.sched_history.specs.Life.{Admission, life_of, given_in, table_of}
-use Rattle.sched_history.specs.Time.{next_after}
+use Rattle.sched_history.specs.Life.{Admission}
+use Rattle.sched_history.specs.Situation.{Situation, situation_of, given_of}
 use Rattle.sched_history.specs.Refusal.{refusal_of}
 
 -- a configuration, the whole history under it, and how many entries at its front were handed over
@@ -40,35 +40,39 @@ abbrev pub is_full : Machine → Bool
 is_full m = nat_le m.config.calls (length (kept_of m)) || nat_le MAX_WHOLE_HISTORY (length m.history)
 
 -- a place for the flow exists, where it needs one
-abbrev pub IsPlaceable : Config → List Entry → FlowSpec → Type 0
-IsPlaceable c h (Unsolicited size interval jitter grants) =
-    (p : Placement) × IsPlacement c (table_of h) (Unsolicited size interval jitter grants) (next_after c h) p
-IsPlaceable c h (Polled interval jitter rate burst peak) =
-    (p : Placement) × IsPlacement c (table_of h) (Polled interval jitter rate burst peak) (next_after c h) p
-IsPlaceable c h (BestEffort priority rate burst peak reserved reserved-burst) = Unit {0}
+abbrev pub IsPlaceable : Config → Situation → FlowSpec → Type 0
+IsPlaceable c s (Unsolicited size interval jitter grants) =
+    (p : Placement) × IsPlacement c s.placed (Unsolicited size interval jitter grants) s.next p
+IsPlaceable c s (Polled interval jitter rate burst peak) =
+    (p : Placement) × IsPlacement c s.placed (Polled interval jitter rate burst peak) s.next p
+IsPlaceable c s (BestEffort priority rate burst peak reserved reserved-burst) = Unit {0}
 
 -- a change of a flow that was given this answers a placement: the one that it keeps, or one beside the others, where
 -- there is one
-abbrev pub TellsPlace : Config → List Entry → ℕ → Admission → FlowSpec → Type 0
-TellsPlace c h sid given spec = (has_place_of given.spec spec ≡ true) ⊎ ((is_periodic spec ≡ true)
-    × ((p : Placement) × IsPlacement c (without sid (table_of h)) spec (next_after c h) p))
+abbrev pub TellsPlace : Config → Situation → ℕ → Admission → FlowSpec → Type 0
+TellsPlace c s sid given spec = (has_place_of given.spec spec ≡ true) ⊎ ((is_periodic spec ≡ true)
+    × ((p : Placement) × IsPlacement c (without sid s.placed) spec s.next p))
 
 -- the call takes memory where no test refuses it: an admission with a place, a change that answers a
 -- placement, or a build
+abbrev pub TakesMemoryIn : Config → Situation → Call → Type 0
+TakesMemoryIn c s (Admit sid spec) = IsPlaceable c s spec
+TakesMemoryIn c s (Remove sid) = ⊥
+TakesMemoryIn c s (Ask receiver sid amount heard) = ⊥
+TakesMemoryIn c s (Heard receiver upto) = ⊥
+TakesMemoryIn c s (Build now) = Unit {0}
+TakesMemoryIn c s (Skip now) = ⊥
+TakesMemoryIn c s (Status sid) = ⊥
+TakesMemoryIn c s (Reserve usage slots) = ⊥
+TakesMemoryIn c s (Header header) = ⊥
+TakesMemoryIn c s (Replace receiver sid amount heard) = ⊥
+TakesMemoryIn c s (Change sid spec) = MatchOption (given_of sid s) ⊥ (λ given. TellsPlace c s sid given spec)
+TakesMemoryIn c s (Rest sid) = ⊥
+TakesMemoryIn c s (Wake sid) = ⊥
+
+-- so it is after a history
 abbrev pub TakesMemory : Config → List Entry → Call → Type 0
-TakesMemory c h (Admit sid spec) = IsPlaceable c h spec
-TakesMemory c h (Remove sid) = ⊥
-TakesMemory c h (Ask receiver sid amount heard) = ⊥
-TakesMemory c h (Heard receiver upto) = ⊥
-TakesMemory c h (Build now) = Unit {0}
-TakesMemory c h (Skip now) = ⊥
-TakesMemory c h (Status sid) = ⊥
-TakesMemory c h (Reserve usage slots) = ⊥
-TakesMemory c h (Header header) = ⊥
-TakesMemory c h (Replace receiver sid amount heard) = ⊥
-TakesMemory c h (Change sid spec) = MatchOption (life_of sid h) ⊥ (λ life. TellsPlace c h sid (given_in sid life) spec)
-TakesMemory c h (Rest sid) = ⊥
-TakesMemory c h (Wake sid) = ⊥
+TakesMemory c h call = TakesMemoryIn c (situation_of c h) call
 
 -- no refusal meets the call, and it takes memory
 pub record MayLackMemory (c : Config) (h : List Entry) (call : Call) : Type 0 where

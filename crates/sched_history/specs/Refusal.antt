@@ -1,6 +1,6 @@
 -- The refusals of each call, in the order of their tests.
 use Rattle.std.specs.Prelude.{ℕ, ◌+◌, ◌-◌, ◌^◌, Bool, false, not, ◌||◌, ◌&&◌, nat_lt, nat_le, ◌==◌, List, [], ◌∷◌}
-use Rattle.std.specs.Prelude.{length, sum_by, Option, None, Some, is_some, option_map, if◌then◌else◌}
+use Rattle.std.specs.Prelude.{length, slice_index, sum_by, Option, None, Some, is_some, option_map, if◌then◌else◌}
 use Rattle.std.specs.Option.{option_or, option_map_or}
 use Rattle.minislots.specs.declared.TheConstants.{MAX_ASK}
 use Rattle.minislots.specs.declared.config.Config.{Config}
@@ -8,6 +8,7 @@ use Rattle.sched_calls.specs.declared.amount.Amount.{Amount}
 use Rattle.sched_calls.specs.Amount.{requested}
 use Rattle.sched_calls.specs.declared.spec.FlowSpec.{FlowSpec}
 use Rattle.sched_calls.specs.FlowSpec.{is_periodic, is_kind_of, periodic_slots, grants_of, takes_requests, first_fault}
+use Rattle.flow_book.specs.Flows.{LiveFlow, flow_of}
 use Rattle.flow_book.specs.Book.{without}
 use Rattle.map_build.specs.Purpose.{broadcast}
 use Rattle.sched_calls.specs.declared.opportunity.Usage.{Usage}
@@ -24,9 +25,8 @@ use Rattle.sched_calls.specs.declared.reply.Refusal.TheVariants.{TooEarly, Late,
 use Rattle.sched_calls.specs.declared.reply.Refusal.TheVariants.{BadLength, ReservesFull, BadBackoff, OtherKind}
 use Rattle.sched_calls.specs.declared.reply.Refusal.TheVariants.{NotUnsolicited, TooShort}
 use Rattle.sched_calls.specs.declared.reply.Entry.{Entry}
-use Rattle.sched_history.specs.Life.{last_sid, life_of, given_in, flows_of}
-use Rattle.sched_history.specs.Time.{next_after, progress_of}
-use Rattle.sched_history.specs.Reserves.{reserves_of}
+use Rattle.sched_history.specs.Life.{last_sid, flows_of}
+use Rattle.sched_history.specs.Situation.{Situation, situation_of}
 
 -- the refusal, where its test holds
 abbrev pub refused_if : Bool → Refusal → Option Refusal
@@ -65,18 +65,17 @@ is_great_amount c amount = nat_lt most_bytes (requested c amount)
 abbrev pub bad_sid : ℕ → Bool
 bad_sid sid = sid == 0 || nat_lt last_sid sid
 
--- whether a flow with this SID is live
-abbrev pub is_live : ℕ → List Entry → Bool
-is_live sid h = is_some (life_of sid h)
+-- whether a flow with this SID is among these
+abbrev pub is_live : ℕ → List LiveFlow → Bool
+is_live sid flows = is_some (flow_of sid flows)
 
--- whether this is so of the present parameters of the live flow of this SID
-abbrev pub has_live : (FlowSpec → Bool) → ℕ → List Entry → Bool
-has_live test sid h =
-    option_map_or (λ life. test (given_in sid life).spec) (life_of sid h) false
+-- whether this is so of the present parameters of the flow of this SID
+abbrev pub has_live : (FlowSpec → Bool) → ℕ → List LiveFlow → Bool
+has_live test sid flows = option_map_or (λ f. test f.spec) (flow_of sid flows) false
 
--- whether the live flow of this SID does not ask for bytes
-abbrev pub is_silent : ℕ → List Entry → Bool
-is_silent sid h = has_live (λ spec. not (takes_requests spec)) sid h
+-- whether the flow of this SID does not ask for bytes
+abbrev pub is_silent : ℕ → List LiveFlow → Bool
+is_silent sid flows = has_live (λ spec. not (takes_requests spec)) sid flows
 
 -- whether a flow is unsolicited
 abbrev pub is_unsolicited : FlowSpec → Bool
@@ -86,13 +85,17 @@ is_unsolicited spec = is_periodic spec && not (takes_requests spec)
 abbrev pub is_short_of_poll : Config → FlowSpec → Bool
 is_short_of_poll c spec = nat_lt (periodic_slots c spec) c.poll_slots
 
+-- the grants per interval of these flows
+abbrev pub interval_grants : List LiveFlow → ℕ
+interval_grants flows = sum_by (λ f. grants_of f.spec) flows
+
 -- the grants per interval of the live flows but that of this SID
 abbrev pub other_grants : Config → ℕ → List Entry → ℕ
-other_grants c sid h = sum_by (λ f. grants_of f.spec) (without sid (flows_of c h))
+other_grants c sid h = interval_grants (without sid (flows_of c h))
 
 -- the grants per interval of the live flows
 abbrev pub periodic_grants : Config → List Entry → ℕ
-periodic_grants c h = sum_by (λ f. grants_of f.spec) (flows_of c h)
+periodic_grants c h = interval_grants (flows_of c h)
 
 -- whether this is the SID of the modems that have traffic of some priorities
 abbrev pub is_sid_of_priorities : ℕ → Bool
@@ -112,64 +115,68 @@ is_to_bad_sid (DataTo sid) = bad_sid sid
 abbrev pub is_wide : ℕ → Bool
 is_wide exponent = nat_lt most_exponent exponent
 
--- the first refusal of a call after a history; that there is no place for a flow is not among these
-abbrev pub refusal_of : Config → List Entry → Call → Option Refusal
-refusal_of c h (Admit sid spec) = first_of (
+-- the first refusal of a call; that there is no place for a flow is not among these
+abbrev pub refusal_in : Config → Situation → Call → Option Refusal
+refusal_in c s (Admit sid spec) = first_of (
     refused_if (bad_sid sid) BadSid ∷
-    refused_if (is_live sid h) SidLive ∷
+    refused_if (is_live sid s.flows) SidLive ∷
     option_map BadFlow (first_fault c spec) ∷
-    refused_if (nat_le c.flows (length (flows_of c h))) FlowsFull ∷
+    refused_if (nat_le c.flows (length s.flows)) FlowsFull ∷
     refused_if (is_periodic spec && nat_lt c.periodic
-    (periodic_grants c h + grants_of spec)) PeriodicFull ∷ [])
-refusal_of c h (Remove sid) = first_of (refused_if (bad_sid sid) BadSid ∷ refused_if (not (is_live sid h)) NoFlow ∷ [])
-refusal_of c h (Ask receiver sid amount heard) = first_of (
+    (interval_grants s.flows + grants_of spec)) PeriodicFull ∷ [])
+refusal_in c s (Remove sid) = first_of (refused_if (bad_sid sid) BadSid ∷ refused_if (not (is_live sid s.flows)) NoFlow ∷ [])
+refusal_in c s (Ask receiver sid amount heard) = first_of (
     refused_if (bad_sid sid) BadSid ∷
-    refused_if (not (is_live sid h)) NoFlow ∷
-    refused_if (is_silent sid h) NotAsking ∷
+    refused_if (not (is_live sid s.flows)) NoFlow ∷
+    refused_if (is_silent sid s.flows) NotAsking ∷
     refused_if (nat_le c.receivers receiver) BadReceiver ∷
     refused_if (is_bad_amount c amount) BadBytes ∷
-    refused_if (nat_lt heard (progress_of c receiver h)) (Acked (progress_of c receiver h)) ∷
-    refused_if (nat_le (next_after c h) heard) (Ahead (next_after c h)) ∷ [])
-refusal_of c h (Replace receiver sid amount heard) = first_of (
+    refused_if (nat_lt heard (slice_index s.progress receiver)) (Acked (slice_index s.progress receiver)) ∷
+    refused_if (nat_le s.next heard) (Ahead s.next) ∷ [])
+refusal_in c s (Replace receiver sid amount heard) = first_of (
     refused_if (bad_sid sid) BadSid ∷
-    refused_if (not (is_live sid h)) NoFlow ∷
-    refused_if (is_silent sid h) NotAsking ∷
+    refused_if (not (is_live sid s.flows)) NoFlow ∷
+    refused_if (is_silent sid s.flows) NotAsking ∷
     refused_if (nat_le c.receivers receiver) BadReceiver ∷
     refused_if (is_great_amount c amount) BadBytes ∷
-    refused_if (nat_lt heard (progress_of c receiver h)) (Acked (progress_of c receiver h)) ∷
-    refused_if (nat_le (next_after c h) heard) (Ahead (next_after c h)) ∷ [])
-refusal_of c h (Change sid spec) = first_of (
+    refused_if (nat_lt heard (slice_index s.progress receiver)) (Acked (slice_index s.progress receiver)) ∷
+    refused_if (nat_le s.next heard) (Ahead s.next) ∷ [])
+refusal_in c s (Change sid spec) = first_of (
     refused_if (bad_sid sid) BadSid ∷
-    refused_if (not (is_live sid h)) NoFlow ∷
-    refused_if (not (has_live (is_kind_of spec) sid h)) OtherKind ∷
+    refused_if (not (is_live sid s.flows)) NoFlow ∷
+    refused_if (not (has_live (is_kind_of spec) sid s.flows)) OtherKind ∷
     option_map BadFlow (first_fault c spec) ∷
     refused_if (is_periodic spec && nat_lt c.periodic
-    (other_grants c sid h + grants_of spec)) PeriodicFull ∷ [])
-refusal_of c h (Rest sid) = first_of (
+    (interval_grants (without sid s.flows) + grants_of spec)) PeriodicFull ∷ [])
+refusal_in c s (Rest sid) = first_of (
     refused_if (bad_sid sid) BadSid ∷
-    refused_if (not (is_live sid h)) NoFlow ∷
-    refused_if (not (has_live is_unsolicited sid h)) NotUnsolicited ∷
-    refused_if (has_live (is_short_of_poll c) sid h) TooShort ∷ [])
-refusal_of c h (Wake sid) = first_of (
+    refused_if (not (is_live sid s.flows)) NoFlow ∷
+    refused_if (not (has_live is_unsolicited sid s.flows)) NotUnsolicited ∷
+    refused_if (has_live (is_short_of_poll c) sid s.flows) TooShort ∷ [])
+refusal_in c s (Wake sid) = first_of (
     refused_if (bad_sid sid) BadSid ∷
-    refused_if (not (is_live sid h)) NoFlow ∷
-    refused_if (not (has_live is_unsolicited sid h)) NotUnsolicited ∷ [])
-refusal_of c h (Heard receiver upto) = first_of (
+    refused_if (not (is_live sid s.flows)) NoFlow ∷
+    refused_if (not (has_live is_unsolicited sid s.flows)) NotUnsolicited ∷ [])
+refusal_in c s (Heard receiver upto) = first_of (
     refused_if (nat_le c.receivers receiver) BadReceiver ∷
-    refused_if (nat_lt (next_after c h) upto) (Ahead (next_after c h)) ∷
-    refused_if (nat_lt upto (progress_of c receiver h)) (Backwards (progress_of c receiver h)) ∷ [])
-refusal_of c h (Build now) = first_of (
+    refused_if (nat_lt s.next upto) (Ahead s.next) ∷
+    refused_if (nat_lt upto (slice_index s.progress receiver)) (Backwards (slice_index s.progress receiver)) ∷ [])
+refusal_in c s (Build now) = first_of (
     refused_if (nat_lt last_clock now) BadClock ∷
-    refused_if (nat_lt (now + most_ahead) (next_after c h + c.frame)) (TooEarly (next_after c h)) ∷
-    refused_if (nat_lt (next_after c h) (now + c.lead)) (Late (next_after c h)) ∷ [])
-refusal_of c h (Skip now) = first_of (
+    refused_if (nat_lt (now + most_ahead) (s.next + c.frame)) (TooEarly s.next) ∷
+    refused_if (nat_lt s.next (now + c.lead)) (Late s.next) ∷ [])
+refusal_in c s (Skip now) = first_of (
     refused_if (nat_lt last_clock now) BadClock ∷
-    refused_if (nat_le (now + c.lead) (next_after c h)) (NotLate (next_after c h)) ∷ [])
-refusal_of c h (Reserve usage slots) = first_of (
+    refused_if (nat_le (now + c.lead) s.next) (NotLate s.next) ∷ [])
+refusal_in c s (Reserve usage slots) = first_of (
     refused_if (is_to_bad_sid usage) BadSid ∷
     refused_if (slots == 0 || nat_lt (c.frame - c.req_slots) slots) BadLength ∷
-    refused_if (nat_le MAX_RESERVES (length (reserves_of c h))) ReservesFull ∷ [])
-refusal_of c h (Header header) = refused_if
+    refused_if (nat_le MAX_RESERVES (length s.reserves)) ReservesFull ∷ [])
+refusal_in c s (Header header) = refused_if
     (is_wide header.ranging_start || is_wide header.ranging_end || is_wide header.data_start
     || is_wide header.data_end) BadBackoff
-refusal_of c h (Status sid) = first_of (refused_if (bad_sid sid) BadSid ∷ refused_if (not (is_live sid h)) NoFlow ∷ [])
+refusal_in c s (Status sid) = first_of (refused_if (bad_sid sid) BadSid ∷ refused_if (not (is_live sid s.flows)) NoFlow ∷ [])
+
+-- the first refusal of a call after a history
+abbrev pub refusal_of : Config → List Entry → Call → Option Refusal
+refusal_of c h call = refusal_in c (situation_of c h) call

@@ -85,29 +85,48 @@ left_by test (r ∷ rs) = if test 0 then left_by (λ k. test (suc k)) rs else r 
 abbrev pub spots_after : Config → List Entry → List Spot
 spots_after c h = due_in c (next_after c h / c.frame) (table_of h)
 
--- what the MAP of the next frame, with these elements, meets of these Reserves: nothing where it settles
+-- what a MAP with these elements, beside these polls and unsolicited grants, meets of these Reserves: nothing where it
+-- settles
+abbrev pub met_beside : Config → Bool → List Spot → List Reserve → List Element → List Met
+met_beside c settles spots rs elements = if settles then [] else met_in c spots (waiting_in rs) elements
+
+-- what the MAP of the next frame, with these elements, meets of these Reserves
 abbrev pub met_by : Config → List Entry → List Reserve → List Element → List Met
-met_by c h rs elements = if settles_after c h then [] else met_in c (spots_after c h) (waiting_in rs) elements
+met_by c h rs elements = met_beside c (settles_after c h) (spots_after c h) rs elements
 
 -- the Reserves after a MAP, by its marks at those that it meets: the others are older, and where it settles all are as
 -- they were
 abbrev pub left_behind : Bool → List Bool → List Reserve → List Reserve
 left_behind settles met rs = if settles then rs else aged (unmarked met rs)
 
--- the Reserves after the MAP of the next frame: those that it meets are gone, and the others older. Where it settles all
--- are as they were
+-- the Reserves after a MAP with these elements, beside these polls and unsolicited grants: those that it meets are gone,
+-- and the others older. Where it settles all are as they were
+abbrev pub reserves_past : Config → Bool → List Spot → List Element → List Reserve → List Reserve
+reserves_past c settles spots elements rs =
+    if settles then rs else aged (left_by (meets_place (met_beside c settles spots rs elements)) rs)
+
+-- the Reserves after a reply, whose MAP, where it has one, is beside these, and settles or not
+abbrev pub reserves_left : Config → Bool → List Spot → Reply → List Reserve → List Reserve
+reserves_left c settles spots (replies.Built m) rs = reserves_past c settles spots m.wire.elements rs
+reserves_left c settles spots reply rs = rs
+
+-- the Reserves after a call with this reply
+abbrev pub reserves_past_call : Config → Bool → List Spot → Call → Reply → List Reserve → List Reserve
+reserves_past_call c settles spots call reply rs =
+    reserves_with (reserve_by call reply) (reserves_left c settles spots reply rs)
+
+-- the Reserves after the MAP of the next frame
 abbrev pub reserves_behind : Config → List Entry → List Element → List Reserve → List Reserve
-reserves_behind c h elements rs =
-    if settles_after c h then rs else aged (left_by (meets_place (met_by c h rs elements)) rs)
+reserves_behind c h elements rs = reserves_past c (settles_after c h) (spots_after c h) elements rs
 
 -- the Reserves after a reply that follows these entries
 abbrev pub reserves_by : Config → List Entry → Reply → List Reserve → List Reserve
-reserves_by c before (replies.Built m) rs = reserves_behind c before m.wire.elements rs
-reserves_by c before reply rs = rs
+reserves_by c before reply rs = reserves_left c (settles_after c before) (spots_after c before) reply rs
 
 -- the Reserves after an entry that follows these
 abbrev pub reserves_then : Config → List Entry → Entry → List Reserve → List Reserve
-reserves_then c before e rs = reserves_with (reserve_by e.call e.reply) (reserves_by c before e.reply rs)
+reserves_then c before e rs =
+    reserves_past_call c (settles_after c before) (spots_after c before) e.call e.reply rs
 
 -- the Reserves after more entries than these, after which there were some
 abbrev pub reserves_after : Config → List Entry → List Reserve → List Entry → List Reserve

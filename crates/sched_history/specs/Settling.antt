@@ -6,6 +6,7 @@ use Rattle.std.specs.Option.{option_map_or}
 use Rattle.minislots.specs.declared.config.Config.{Config}
 use Rattle.map_codec.specs.declared.element.Element.{Element}
 use Rattle.sched_calls.specs.declared.frame_map.FrameMap.{FrameMap}
+use Rattle.sched_calls.specs.declared.opportunity.Header.{Header}
 use Rattle.sched_calls.specs.declared.reply.Reply.{Reply}
 use Rattle.sched_calls.specs.declared.reply.Reply.TheVariants as replies
 use Rattle.sched_calls.specs.declared.reply.Entry.{Entry}
@@ -56,6 +57,15 @@ count_behind first maps = option_map_or (λ found. found.said) (latest (λ m. So
 abbrev pub count_after : Config → List Entry → ℕ
 count_after c h = count_behind c.ucd_count (maps_of h)
 
+-- the acknowledge time of the last of these MAPs, or one before them
+abbrev pub ack_behind : ℕ → List FrameMap → ℕ
+ack_behind first maps = option_map_or (λ found. found.said) (latest (λ m. Some m.ack) maps) first
+
+-- the acknowledge time of the last MAP, or the configuration's start. The next MAP has another where since then a
+-- receiver has handed in what it heard
+abbrev pub last_ack : Config → List Entry → ℕ
+last_ack c h = ack_behind c.start (maps_of h)
+
 -- what a history leaves of its changes: that UCD count, and where the last MAP starts that changes
 abbrev pub settling_after : Config → List Entry → Settling
 settling_after c h = record { count = count_after c h; change = last_of (changes_of c h) }
@@ -69,9 +79,18 @@ settling_with count start s =
 abbrev pub is_near : ℕ → ℕ → ℕ → Bool
 is_near settle start change = nat_lt start (change + settle)
 
--- the MAP of the next frame settles: it changes, or starts less than the configuration says behind one that changes.
--- Where the configuration says 0 none does.
+-- a MAP with this header, of the frame that starts there, settles: it has another UCD count than the last MAP, or starts
+-- less than the configuration says behind the last that changed. Where the configuration says 0 none does
+abbrev pub settles_by : Config → Header → Settling → ℕ → Bool
+settles_by c header s next = nat_lt 0 c.settle
+    && (not (header.ucd_count == s.count) || option_map_or (is_near c.settle next) s.change false)
+
+-- the MAP of the next frame settles
 abbrev pub settles_after : Config → List Entry → Bool
-settles_after c h = nat_lt 0 c.settle
+settles_after c h = settles_by c (header_after c h) (settling_after c h) (next_after c h)
+
+-- the same by every change: it changes, or starts less than the configuration says behind one that changes
+abbrev pub settles_by_any : Config → List Entry → Bool
+settles_by_any c h = nat_lt 0 c.settle
     && (not ((header_after c h).ucd_count == count_after c h)
     || list_any (is_near c.settle (next_after c h)) (changes_of c h))

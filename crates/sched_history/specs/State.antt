@@ -3,7 +3,6 @@ use Rattle.std.specs.Prelude.{◌≡◌, ℕ, ◌+◌, ◌-◌, ◌*◌, ◌/◌
 use Rattle.std.specs.Prelude.{not, ◌&&◌, ◌||◌, nat_lt, ◌==◌, Option, None, Some, List, [], ◌∷◌}
 use Rattle.std.specs.Prelude.{◌++◌, length, slice_index, vec_capacity}
 use Rattle.std.specs.List.{AllByRecursion}
-use Rattle.std.specs.Option.{option_map_or}
 use Rattle.minislots.specs.declared.config.Config.{Config}
 use Rattle.minislots.specs.declared.stamp.Stamp.{Stamp}
 use Rattle.minislots.specs.Config.{IsLawful}
@@ -26,8 +25,7 @@ use Rattle.sched_history.specs.Life.{turn_by, added_by, replaced_by, grants_by, 
 use Rattle.sched_history.specs.Life.{flows_of, table_of}
 use Rattle.sched_history.specs.Time.{skip_by, is_built, progress_by, next_after, progress_of}
 use Rattle.sched_history.specs.Reserves.{reserve_by, header_by, header_after, reserves_of, waiting_in, left_behind}
-use Rattle.sched_history.specs.Settling.{settling_after, is_near, settles_after}
-use Rattle.sched_history.specs.ChannelState.{last_ack}
+use Rattle.sched_history.specs.Settling.{settling_after, settles_by, settles_after, last_ack}
 use Rattle.sched_history.specs.Refusal.{most_bytes, most_ahead, last_clock, refusal_of}
 use Rattle.sched_history.specs.History.{Answers, IsStep, IsLegal, IsNextMap}
 use Rattle.sched_history.specs.Planned.{PlannedBuild}
@@ -35,12 +33,9 @@ use Rattle.sched_history.specs.Facts.{IsWithinAsked}
 use Rattle.sched_history.specs.Machine.{Machine, kept_of, TakesMemory}
 use Rattle.sched_calls.specs.Reply.{IsEncodable}
 
--- the MAP of the next frame settles, by the fields: its header has another UCD count than the last MAP, or it starts
--- less than the configuration says behind the last that changed
+-- the MAP of the next frame settles, by the fields
 abbrev pub settles_next : State → Bool
-settles_next s = nat_lt 0 s.config.settle
-    && (not (s.header.ucd_count == s.settling.count)
-    || option_map_or (is_near s.config.settle s.next) s.settling.change false)
+settles_next s = settles_by s.config s.header s.settling s.next
 
 -- what the next frame has to serve, and whether its MAP settles, by the fields
 abbrev pub next_demand : State → Demand

@@ -14,6 +14,7 @@ use Rattle.sched_calls.specs.declared.reply.Reply.{Reply}
 use Rattle.sched_calls.specs.declared.reply.Reply.TheVariants as replies
 use Rattle.sched_calls.specs.declared.reply.Entry.{Entry}
 use Rattle.sched_history.specs.Life.{Admission, Turn, Begins, turn_by, turn_of, Life, life_of}
+use Rattle.sched_history.specs.Situation.{situation_of}
 use Rattle.sched_history.specs.History.{IsStep, IsLegal}
 use Rattle.sched_history.proofs.lives.Finding.{good_sid}
 use Rattle.sched_history.proofs.lives.LivesAfter.{with_since, life_of-stays, life_of-begins}
@@ -104,7 +105,7 @@ good_opening : (c : Config) (h : List Entry) (call : Call) (reply : Reply) (o : 
     → opening_by call reply ≡ Some o → Begun o.sid call reply
 good_opening c h (calls.Admit sid spec) (replies.Admitted placement) o step is =
     let same : record { sid = sid; spec = spec } ≡ o = cc in
-    let good = good_sid sid (passed-admit c h sid spec
+    let good = good_sid sid (passed-admit c (situation_of c h) sid spec
     (accepted c h (calls.Admit sid spec) (replies.Admitted placement) (λ r refuses. cc) step).0).good in
     subst (λ (o : Opening). Begun o.sid (calls.Admit sid spec) (replies.Admitted placement)) same (record {
       least = good.0;

@@ -1,7 +1,6 @@
 -- The live flows and placements are found by their SIDs, and ascend.
 use Rattle.std.proofs.Common.{◌≡◌, ℕ, ◌≤◌, ◌<◌, Bool, false, ◌==◌, List, find}
 use Rattle.std.proofs.Common.{Option, None, Some, refl, sym, ap, arith, [], ◌∷◌}
-use Rattle.std.specs.Prelude.{is_some}
 use Rattle.std.specs.List.{AllByRecursion}
 use Rattle.std.specs.Option.{option_map, option_and_then}
 use Rattle.std.proofs.lemmas.Bool.Decides.{nat_tests}
@@ -15,7 +14,7 @@ use Rattle.periodic.specs.Placement.{count_from, Placed}
 use Rattle.sched_calls.specs.declared.reply.Entry.{Entry}
 use Rattle.sched_history.specs.Life.{Life, life_of, given_in, rests_in, flow_in_life, placed_in_life, sids}
 use Rattle.sched_history.specs.Life.{flows_of, table_of}
-use Rattle.sched_history.specs.Refusal.{bad_sid, is_live}
+use Rattle.sched_history.specs.Refusal.{bad_sid}
 use Rattle.sched_history.proofs.lists.Numbered.{HasNumber, filter_map-above, filter_map-ascends, filter_map-below}
 use Rattle.sched_history.proofs.lists.Numbered.{find-inside}
 
@@ -101,11 +100,3 @@ flows_of-channel c h = record {
 -- the SIDs of flows are those that are not refused
 pub good_sid : (sid : ℕ) → bad_sid sid ≡ false → (1 ≤ sid) × (sid ≤ 8191)
 good_sid sid good = (grind (arith, nat_tests), grind (arith, nat_tests))
-
-no_life : (o : Option Life) → is_some o ≡ false → o ≡ None
-no_life None dead = refl
-no_life (Some life) dead = absurd cc
-
--- a SID that is not live has no life
-pub life_of-dead : (sid : ℕ) (h : List Entry) → is_live sid h ≡ false → life_of sid h ≡ None
-life_of-dead sid h dead = no_life (life_of sid h) dead

@@ -22,6 +22,7 @@ use Rattle.sched_calls.specs.declared.reply.Reply.TheVariants as replies
 use Rattle.sched_calls.specs.declared.reply.Entry.{Entry}
 use Rattle.sched_history.specs.Life.{Admission, Turn, Begins, Ends, turn_by, Life, life_of, given_in, rests_in}
 use Rattle.sched_history.specs.Life.{flow_in_life, placed_in_life, sids, table_of}
+use Rattle.sched_history.specs.Situation.{Situation, situation_of}
 use Rattle.sched_history.specs.Refusal.{refusal_of, periodic_grants}
 use Rattle.sched_history.specs.History.{AnswersAdmit, PlacesOrRefuses, PlacesAnew, AnswersChange, IsStep}
 use Rattle.sched_history.specs.History.{IsLegal}
@@ -34,31 +35,31 @@ use Rattle.periodic.proofs.Told.{alike-placed}
 abbrev pub IsPaired : Admission → Type 0
 IsPaired a = is_some a.placement ≡ is_periodic a.spec
 
-placed-pairs : (c : Config) (h : List Entry) (spec : FlowSpec) (placement : Option Placement)
-    → PlacesOrRefuses c h spec (replies.Admitted placement) → is_some placement ≡ true
-placed-pairs c h spec None (inl (p, lawful, is)) = absurd cc
-placed-pairs c h spec None (inr (never, is)) = absurd cc
-placed-pairs c h spec (Some placement) answers = refl
+placed-pairs : (c : Config) (s : Situation) (spec : FlowSpec) (placement : Option Placement)
+    → PlacesOrRefuses c s spec (replies.Admitted placement) → is_some placement ≡ true
+placed-pairs c s spec None (inl (p, lawful, is)) = absurd cc
+placed-pairs c s spec None (inr (never, is)) = absurd cc
+placed-pairs c s spec (Some placement) answers = refl
 
 unplaced-pairs : (placement : Option Placement) → ◌≡◌ {A = Reply} (replies.Admitted placement) (replies.Admitted None)
     → is_some placement ≡ false
 unplaced-pairs None is = refl
 unplaced-pairs (Some placement) is = absurd cc
 
-admitted-pairs : (c : Config) (h : List Entry) (spec : FlowSpec) (placement : Option Placement)
-    → AnswersAdmit c h spec (replies.Admitted placement) → is_some placement ≡ is_periodic spec
-admitted-pairs c h (Unsolicited size interval jitter grants) placement answers =
-    placed-pairs c h (Unsolicited size interval jitter grants) placement answers
-admitted-pairs c h (Polled interval jitter rate burst peak) placement answers =
-    placed-pairs c h (Polled interval jitter rate burst peak) placement answers
-admitted-pairs c h (BestEffort priority rate burst peak reserved reserved-burst) placement answers = unplaced-pairs placement answers
+admitted-pairs : (c : Config) (s : Situation) (spec : FlowSpec) (placement : Option Placement)
+    → AnswersAdmit c s spec (replies.Admitted placement) → is_some placement ≡ is_periodic spec
+admitted-pairs c s (Unsolicited size interval jitter grants) placement answers =
+    placed-pairs c s (Unsolicited size interval jitter grants) placement answers
+admitted-pairs c s (Polled interval jitter rate burst peak) placement answers =
+    placed-pairs c s (Polled interval jitter rate burst peak) placement answers
+admitted-pairs c s (BestEffort priority rate burst peak reserved reserved-burst) placement answers = unplaced-pairs placement answers
 
-step-pairs : (c : Config) (h : List Entry) (spec : FlowSpec) (placement : Option Placement) (o : Option Refusal)
-    → MatchOption o (AnswersAdmit c h spec (replies.Admitted placement))
+step-pairs : (c : Config) (s : Situation) (spec : FlowSpec) (placement : Option Placement) (o : Option Refusal)
+    → MatchOption o (AnswersAdmit c s spec (replies.Admitted placement))
     (λ refusal. ◌≡◌ {A = Reply} (replies.Admitted placement) (replies.Refused refusal))
     → is_some placement ≡ is_periodic spec
-step-pairs c h spec placement None step = admitted-pairs c h spec placement step
-step-pairs c h spec placement (Some refusal) step = absurd cc
+step-pairs c s spec placement None step = admitted-pairs c s spec placement step
+step-pairs c s spec placement (Some refusal) step = absurd cc
 
 begun : (b : Bool) (a admission : Admission) → ◌≡◌ {A = Option Turn} (if b then Some (Begins a) else None)
     (Some (Begins admission))
@@ -79,7 +80,7 @@ begins-pairs : (c : Config) (h : List Entry) (call : Call) (reply : Reply) → I
 begins-pairs c h (calls.Admit other spec) (replies.Admitted placement) step sid admission is =
     let a : Admission = record { spec = spec; placement = placement } in
     let same : a ≡ admission = begun (other == sid) a admission is in
-    rw (← same) (step-pairs c h spec placement (refusal_of c h (calls.Admit other spec)) step)
+    rw (← same) (step-pairs c (situation_of c h) spec placement (refusal_of c h (calls.Admit other spec)) step)
 begins-pairs c h (calls.Remove other) replies.Removed step sid admission is = not_ended (other == sid) admission is
 begins-pairs c h call reply step sid admission is = absurd cc
 
@@ -93,25 +94,25 @@ changed-none : (placement : Option Placement) → ◌≡◌ {A = Reply} (replies
 changed-none None is = refl
 changed-none (Some placement) is = absurd cc
 
-anew-pairs : (c : Config) (h : List Entry) (sid : ℕ) (spec : FlowSpec) (placement : Option Placement)
-    → PlacesAnew c h sid spec (replies.Changed placement) → is_some placement ≡ true
-anew-pairs c h sid spec placement (inl (p, lawful, is)) = changed-some placement p is
-anew-pairs c h sid spec placement (inr (never, is)) = absurd cc
+anew-pairs : (c : Config) (s : Situation) (sid : ℕ) (spec : FlowSpec) (placement : Option Placement)
+    → PlacesAnew c s sid spec (replies.Changed placement) → is_some placement ≡ true
+anew-pairs c s sid spec placement (inl (p, lawful, is)) = changed-some placement p is
+anew-pairs c s sid spec placement (inr (never, is)) = absurd cc
 
 -- what a change gives is paired
-change-pairs : (c : Config) (h : List Entry) (sid : ℕ) (given a : Admission)
-    → AnswersChange c h sid given a.spec (replies.Changed a.placement) → IsPaired a
-change-pairs c h sid given a (inl (same, (p, told, is))) =
+change-pairs : (c : Config) (s : Situation) (sid : ℕ) (given a : Admission)
+    → AnswersChange c s sid given a.spec (replies.Changed a.placement) → IsPaired a
+change-pairs c s sid given a (inl (same, (p, told, is))) =
     changed-some a.placement p is ∙ sym (alike-placed c given.spec a.spec same).periodic
-change-pairs c h sid given a (inr (inl (other, periodic, answers))) =
-    anew-pairs c h sid a.spec a.placement answers ∙ sym periodic
-change-pairs c h sid given a (inr (inr (aperiodic, is))) = changed-none a.placement is ∙ sym aperiodic
+change-pairs c s sid given a (inr (inl (other, periodic, answers))) =
+    anew-pairs c s sid a.spec a.placement answers ∙ sym periodic
+change-pairs c s sid given a (inr (inr (aperiodic, is))) = changed-none a.placement is ∙ sym aperiodic
 
 given-pairs : (c : Config) → IsGivenSo c (λ h sid a. IsPaired a)
 given-pairs c = record {
   stays = λ h e sid a step paired. paired;
   begins = λ h e sid a step is. begins-pairs c h e.call e.reply step sid a is;
-  changes = λ h e sid life a legal step change paired. change-pairs c h sid (given_in sid life) a change.answers;
+  changes = λ h e sid life a legal step change paired. change-pairs c (situation_of c h) sid (given_in sid life) a change.answers;
 }
 
 -- in a legal history a life has a place where its flow is periodic

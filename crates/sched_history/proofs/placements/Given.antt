@@ -1,7 +1,6 @@
 -- What a life is given: by its admission, and by each change since.
 use Rattle.std.proofs.Common.{◌≡◌, ℕ, Bool, true, false, ◌==◌, if◌then◌else◌, List, [], ◌∷◌, ◌++◌}
 use Rattle.std.proofs.Common.{Option, None, Some, refl, sym, ap, ◌∙◌, subst, arith}
-use Rattle.std.specs.Prelude.{is_some}
 use Rattle.std.specs.Option.{option_map, MatchOption}
 use Rattle.std.proofs.lemmas.Bool.Decides.{nat_tests}
 use Rattle.minislots.specs.declared.config.Config.{Config}
@@ -14,19 +13,18 @@ use Rattle.sched_calls.specs.declared.reply.Reply.TheVariants as replies
 use Rattle.sched_calls.specs.declared.reply.Entry.{Entry}
 use Rattle.sched_history.specs.Life.{Admission, Turn, Begins, Ends, turn_by, change_by, Life, life_of, given_in}
 use Rattle.sched_history.specs.History.{AnswersChange, IsStep, IsLegal}
+use Rattle.sched_history.specs.Situation.{situation_of}
 use Rattle.sched_history.proofs.lists.Latests.{or_else}
 use Rattle.sched_history.proofs.lives.LivesAfter.{with_since, life_of-stays, life_of-begins, life_of-ends}
 use Rattle.sched_history.proofs.lives.FlowsAfter.{given_in-more}
+use Rattle.sched_history.proofs.lives.Left.{life_of-live, given_of-life}
 use Rattle.sched_history.proofs.steps.LegalHistories.{accepted, legal_induction}
 use Rattle.sched_history.proofs.steps.Passed.{IsKnown, ChangesFlow, passed-change}
 
-some-life : (o : Option Life) → is_some o ≡ true → (life : Life) × (o ≡ Some life)
-some-life None e = absurd cc
-some-life (Some life) e = (life, refl)
-
 -- the life of a SID that is live
-pub known-life : (sid : ℕ) (h : List Entry) → IsKnown h sid → (life : Life) × (life_of sid h ≡ Some life)
-known-life sid h known = some-life (life_of sid h) known.live
+pub known-life : (c : Config) (h : List Entry) (sid : ℕ) → IsKnown (situation_of c h) sid
+    → (life : Life) × (life_of sid h ≡ Some life)
+known-life c h sid known = life_of-live c h sid known.good known.live
 
 -- how a change is called and answered
 pub record IsChange (sid : ℕ) (call : Call) (reply : Reply) (a : Admission) : Type 0 where
@@ -53,8 +51,8 @@ gives_by sid call reply a is = absurd (cc)
 
 -- A legal change of a life: the tests that it passed, and its answer
 pub record IsLegalChange (c : Config) (h : List Entry) (sid : ℕ) (life : Life) (a : Admission) : Type 0 where
-  pub passed : ChangesFlow c h sid a.spec
-  pub answers : AnswersChange c h sid (given_in sid life) a.spec (replies.Changed a.placement)
+  pub passed : ChangesFlow c (situation_of c h) sid a.spec
+  pub answers : AnswersChange c (situation_of c h) sid (given_in sid life) a.spec (replies.Changed a.placement)
 
 -- what a legal entry gives it gives by one
 pub legal-change : (c : Config) (h : List Entry) (e : Entry) (sid : ℕ) (life : Life) (a : Admission)
@@ -66,10 +64,12 @@ legal-change c h e sid life a step lives gives =
     subst (λ r. IsStep c h (calls.Change sid a.spec) r) is.answered
     (subst (λ k. IsStep c h k e.reply) is.asked step) in
     let both = accepted c h (calls.Change sid a.spec) (replies.Changed a.placement) (λ r refuses. cc) step' in
+    let passed = passed-change c (situation_of c h) sid a.spec both.0 in
     record {
-      passed = passed-change c h sid a.spec both.0;
+      passed = passed;
       answers = subst (λ o. MatchOption o ⊥
-          (λ l. AnswersChange c h sid (given_in sid l) a.spec (replies.Changed a.placement))) lives both.1;
+          (λ given. AnswersChange c (situation_of c h) sid given a.spec (replies.Changed a.placement)))
+          (given_of-life c h sid passed.known.good life lives) both.1;
     }
 
 -- What holds of what a life is given, after each legal entry

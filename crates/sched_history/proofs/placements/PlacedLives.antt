@@ -19,8 +19,11 @@ use Rattle.sched_calls.specs.declared.reply.Entry.{Entry}
 use Rattle.sched_history.specs.Life.{Admission, Begins, Ends, turn_by, Life, life_of, given_in, rests_in}
 use Rattle.sched_history.specs.Life.{placed_in_life, sids, table_of}
 use Rattle.sched_history.specs.Time.{next_after}
+use Rattle.sched_history.specs.Situation.{Situation, situation_of, given_of}
+use Rattle.sched_history.specs.Refusal.{bad_sid}
 use Rattle.sched_history.specs.History.{PlacesOrRefuses, AnswersAdmit, PlacesAnew, AnswersChange, IsStep}
 use Rattle.sched_history.specs.History.{IsLegal}
+use Rattle.sched_history.proofs.lives.Left.{given_of-left}
 use Rattle.sched_history.proofs.steps.LegalHistories.{accepted}
 use Rattle.sched_history.proofs.steps.Passed.{ChangesFlow, passed-admit}
 use Rattle.sched_history.proofs.time.NextFrames.{next_after-ascends}
@@ -69,28 +72,28 @@ begins_by sid (calls.Remove other) replies.Removed a is = absurd (ends_if (other
 begins_by sid call reply a is = absurd (cc)
 
 -- an accepted admission with a placement
-pub record IsPlacedNow (c : Config) (h : List Entry) (spec : FlowSpec) (p : Placement) : Type 0 where
-  pub lawful : IsPlacement c (table_of h) spec (next_after c h) p
+pub record IsPlacedNow (c : Config) (s : Situation) (spec : FlowSpec) (p : Placement) : Type 0 where
+  pub lawful : IsPlacement c s.placed spec s.next p
   pub periodic : is_periodic spec ≡ true
 
-placed_by : (c : Config) (h : List Entry) (spec : FlowSpec) (placement : Option Placement) (p : Placement)
+placed_by : (c : Config) (s : Situation) (spec : FlowSpec) (placement : Option Placement) (p : Placement)
     → is_periodic spec ≡ true
     → placement ≡ Some p
-    → PlacesOrRefuses c h spec (replies.Admitted placement) → IsPlacedNow c h spec p
-placed_by c h spec placement p periodic is (inl placed) =
+    → PlacesOrRefuses c s spec (replies.Admitted placement) → IsPlacedNow c s spec p
+placed_by c s spec placement p periodic is (inl placed) =
     let them : placed.0 ≡ p = cc in
-    record { lawful = subst (IsPlacement c (table_of h) spec (next_after c h)) them placed.1; periodic = periodic }
-placed_by c h spec placement p periodic is (inr refused) = absurd (cc)
+    record { lawful = subst (IsPlacement c s.placed spec s.next) them placed.1; periodic = periodic }
+placed_by c s spec placement p periodic is (inr refused) = absurd (cc)
 
 -- the placement that an accepted admission answers is lawful, and its flow periodic
-pub answered_place : (c : Config) (h : List Entry) (spec : FlowSpec) (placement : Option Placement) (p : Placement)
+pub answered_place : (c : Config) (s : Situation) (spec : FlowSpec) (placement : Option Placement) (p : Placement)
     → placement ≡ Some p
-    → AnswersAdmit c h spec (replies.Admitted placement) → IsPlacedNow c h spec p
-answered_place c h (Unsolicited size interval jitter grants) placement p is answers =
-    placed_by c h (Unsolicited size interval jitter grants) placement p refl is answers
-answered_place c h (Polled interval jitter rate burst peak) placement p is answers =
-    placed_by c h (Polled interval jitter rate burst peak) placement p refl is answers
-answered_place c h (BestEffort priority rate burst peak reserved reserved-burst) placement p is answers = absurd (cc)
+    → AnswersAdmit c s spec (replies.Admitted placement) → IsPlacedNow c s spec p
+answered_place c s (Unsolicited size interval jitter grants) placement p is answers =
+    placed_by c s (Unsolicited size interval jitter grants) placement p refl is answers
+answered_place c s (Polled interval jitter rate burst peak) placement p is answers =
+    placed_by c s (Polled interval jitter rate burst peak) placement p refl is answers
+answered_place c s (BestEffort priority rate burst peak reserved reserved-burst) placement p is answers = absurd (cc)
 
 -- a placement that was lawful stays one that was, as the next frame goes on
 later_placed : (c : Config) (slot later : ℕ) (spec : FlowSpec) (p : Placement) → slot ≤ later → WasPlaced c slot spec p
@@ -108,12 +111,12 @@ later_placed c slot later spec p le was =
     }
 
 -- an accepted change places anew what it places
-pub changed_place : (c : Config) (h : List Entry) (sid : ℕ) (spec : FlowSpec) (placement : Option Placement) (p : Placement)
-    → placement ≡ Some p → PlacesAnew c h sid spec (replies.Changed placement)
-    → IsPlacement c (without sid (table_of h)) spec (next_after c h) p
-changed_place c h sid spec placement p at (inl (q, lawful, is)) =
-    let them : q ≡ p = cc in subst (IsPlacement c (without sid (table_of h)) spec (next_after c h)) them lawful
-changed_place c h sid spec placement p at (inr (never, is)) = absurd cc
+pub changed_place : (c : Config) (s : Situation) (sid : ℕ) (spec : FlowSpec) (placement : Option Placement) (p : Placement)
+    → placement ≡ Some p → PlacesAnew c s sid spec (replies.Changed placement)
+    → IsPlacement c (without sid s.placed) spec s.next p
+changed_place c s sid spec placement p at (inl (q, lawful, is)) =
+    let them : q ≡ p = cc in subst (IsPlacement c (without sid s.placed) spec s.next) them lawful
+changed_place c s sid spec placement p at (inr (never, is)) = absurd cc
 
 -- or it keeps what stands
 kept_place : (c : Config) (given a : Admission) (next : ℕ) (o : Option Placement) (p q : Placement)
@@ -134,20 +137,20 @@ module _ (c : Config) where
       subst (λ r. IsStep c h (calls.Admit sid a.spec) r) admits.answered
       (subst (λ k. IsStep c h k e.reply) admits.asked step) in
       let answers = accepted c h (calls.Admit sid a.spec) (replies.Admitted a.placement) (λ r refuses. cc) step' in
-      let now : IsPlacedNow c h a.spec p = answered_place c h a.spec a.placement p at answers.1 in
+      let now : IsPlacedNow c (situation_of c h) a.spec p = answered_place c (situation_of c h) a.spec a.placement p at answers.1 in
       record {
         table = table_of h;
         since = next_after c h;
         past = next_after-ascends c h e step;
         lawful = now.lawful;
-        faultless = (passed-admit c h sid a.spec answers.0).no_fault;
+        faultless = (passed-admit c (situation_of c h) sid a.spec answers.0).no_fault;
         periodic = now.periodic;
       }
 
   -- a life that has other parameters
   place_changes : (h : List Entry) (e : Entry) (sid : ℕ) (given a : Admission) (p : Placement)
-      → IsStep c h e.call e.reply → ChangesFlow c h sid a.spec → a.placement ≡ Some p
-      → AnswersChange c h sid given a.spec (replies.Changed a.placement) → WasPlacedIn c (next_after c h) given
+      → IsStep c h e.call e.reply → ChangesFlow c (situation_of c h) sid a.spec → a.placement ≡ Some p
+      → AnswersChange c (situation_of c h) sid given a.spec (replies.Changed a.placement) → WasPlacedIn c (next_after c h) given
       → WasPlaced c (next_after c (h ++ e ∷ [])) a.spec p
   place_changes h e sid given a p step may at (inl (same, (q, told, is))) was =
       let alike = alike-placed c given.spec a.spec same in
@@ -166,7 +169,7 @@ module _ (c : Config) where
     table = without sid (table_of h);
     since = next_after c h;
     past = next_after-ascends c h e step;
-    lawful = changed_place c h sid a.spec a.placement p at answers;
+    lawful = changed_place c (situation_of c h) sid a.spec a.placement p at answers;
     faultless = may.no_fault;
     periodic = periodic;
   }
@@ -185,6 +188,19 @@ module _ (c : Config) where
   pub lives_placed : (h : List Entry) → IsLegal c h → (sid : ℕ) (life : Life) → life_of sid h ≡ Some life
       → WasPlacedIn c (next_after c h) (given_in sid life)
   lives_placed h legal = lives-given c (λ h sid a. WasPlacedIn c (next_after c h) a) places-given h legal
+
+  given_from : (h : List Entry) (sid : ℕ) (o : Option Life) (given : Admission) → life_of sid h ≡ o
+      → option_map (given_in sid) o ≡ Some given → IsLegal c h → WasPlacedIn c (next_after c h) given
+  given_from h sid None given lives is legal = absurd cc
+  given_from h sid (Some life) given lives is legal =
+      let same : given_in sid life ≡ given = cc in
+      subst (WasPlacedIn c (next_after c h)) same (lives_placed h legal sid life lives)
+
+  -- so what is left of a live flow was placed lawfully
+  pub given_placed : (h : List Entry) → IsLegal c h → (sid : ℕ) → bad_sid sid ≡ false → (given : Admission)
+      → given_of sid (situation_of c h) ≡ Some given → WasPlacedIn c (next_after c h) given
+  given_placed h legal sid good given is =
+      given_from h sid (life_of sid h) given refl (rw (given_of-left c h sid good) at is) legal
 
   placed_said : (h : List Entry) (sid : ℕ) (o : Option Life) (flow : Placed) → life_of sid h ≡ o
       → option_and_then (placed_in_life sid) o ≡ Some flow → IsLegal c h

@@ -26,7 +26,9 @@ use Rattle.sched_calls.specs.declared.reply.Entry.{Entry}
 use Rattle.sched_history.specs.Life.{Admission, given_in, rests_in, placed_in_life, table_of}
 use Rattle.sched_history.specs.Time.{next_after}
 use Rattle.sched_history.specs.History.{AnswersChange, IsStep, IsLegal}
-use Rattle.sched_history.proofs.lives.Finding.{good_sid, life_of-dead, find-table_of, table_of-ascends}
+use Rattle.sched_history.specs.Situation.{situation_of}
+use Rattle.sched_history.proofs.lives.Finding.{good_sid, find-table_of, table_of-ascends}
+use Rattle.sched_history.proofs.lives.Left.{life_of-dead, given_of-life}
 use Rattle.sched_history.proofs.lives.FlowsAfter.{table_of-stays}
 use Rattle.sched_history.proofs.lives.LiveFlows.{table_of-none}
 use Rattle.sched_history.proofs.flows.Admissions.{table_of-admit_placed, table_of-admit_unplaced}
@@ -62,19 +64,19 @@ module _ (c : Config) (conf : IsLawful c) where
         → AreFew (h ++ record { stamp = stamp; call = calls.Admit sid spec; reply = replies.Admitted (Some p) } ∷ [])
     placed sid spec p step k =
         let answers = accepted c h (calls.Admit sid spec) (replies.Admitted (Some p)) (λ r refuses. cc) step in
-        let admits = passed-admit c h sid spec answers.0 in
+        let admits = passed-admit c (situation_of c h) sid spec answers.0 in
         let good = good_sid sid admits.good in
-        let now = answered_place c h spec (Some p) p refl answers.1 in
-        rw (table_of-admit_placed stamp h sid spec p (life_of-dead sid h admits.fresh) good.0 good.1)
+        let now = answered_place c (situation_of c h) spec (Some p) p refl answers.1 in
+        rw (table_of-admit_placed stamp h sid spec p (life_of-dead c h sid admits.good admits.fresh) good.0 good.1)
         (few-with c (table_of h) sid spec (next_after c h) p k conf now.lawful)
 
     unplaced : (sid : ℕ) (spec : FlowSpec) → IsStep c h (calls.Admit sid spec) (replies.Admitted None)
         → AreFew (h ++ record { stamp = stamp; call = calls.Admit sid spec; reply = replies.Admitted None } ∷ [])
     unplaced sid spec step =
         let answers = accepted c h (calls.Admit sid spec) (replies.Admitted None) (λ r refuses. cc) step in
-        let admits = passed-admit c h sid spec answers.0 in
+        let admits = passed-admit c (situation_of c h) sid spec answers.0 in
         same (calls.Admit sid spec) (replies.Admitted None)
-        (table_of-admit_unplaced stamp h sid spec (life_of-dead sid h admits.fresh))
+        (table_of-admit_unplaced stamp h sid spec (life_of-dead c h sid admits.good admits.fresh))
 
     removed : (sid : ℕ)
         → AreFew (h ++ record { stamp = stamp; call = calls.Remove sid; reply = replies.Removed } ∷ [])
@@ -117,7 +119,7 @@ module _ (c : Config) (conf : IsLawful c) where
           placement = q;
           rests = rests;
         }) given.placement
-        → AnswersChange c h sid given spec (replies.Changed (Some p))
+        → AnswersChange c (situation_of c h) sid given spec (replies.Changed (Some p))
         → length (spots_in c k (with_placed (placed_at sid spec p) (without_placed sid (table_of h)))) ≤ MAX_SPOTS
     few-given sid spec p given rests k found (inl (same, (q, told, is))) =
         let them : q ≡ p = cc in
@@ -125,7 +127,7 @@ module _ (c : Config) (conf : IsLawful c) where
         (subst (λ r. IsSomeAnd given.placement (λ stands. IsToldFrom c spec (next_after c h) stands r)) them told)
     few-given sid spec p given rests k found (inr (inl (other, periodic, answers))) =
         few-with c (without_placed sid (table_of h)) sid spec (next_after c h) p k conf
-        (changed_place c h sid spec (Some p) p refl answers)
+        (changed_place c (situation_of c h) sid spec (Some p) p refl answers)
     few-given sid spec p given rests k found (inr (inr (aperiodic, is))) = absurd cc
 
     rested : (call : Call) (reply : Reply) (sid : ℕ) (rests : Bool)
@@ -138,21 +140,21 @@ module _ (c : Config) (conf : IsLawful c) where
         → AreFew (h ++ record { stamp = stamp; call = calls.Change sid spec; reply = replies.Changed (Some p) } ∷ [])
     changed sid spec p step k =
         let both = accepted c h (calls.Change sid spec) (replies.Changed (Some p)) (λ r refuses. cc) step in
-        let known = (passed-change c h sid spec both.0).known in
+        let known = (passed-change c (situation_of c h) sid spec both.0).known in
         let good = good_sid sid known.good in
-        let lives = known-life sid h known in
+        let lives = known-life c h sid known in
         rw (table_of-change_placed stamp h sid spec lives.0 lives.1 p good.0 good.1)
         (few-given sid spec p (given_in sid lives.0) (rests_in sid lives.0.since) k
         (find-table_of sid h good.0 good.1 ∙ ap (option_and_then (placed_in_life sid)) lives.1)
-        (subst (λ o. MatchOption o ⊥ (λ l. AnswersChange c h sid (given_in sid l) spec (replies.Changed (Some p))))
-        lives.1 both.1))
+        (subst (λ o. MatchOption o ⊥ (λ given. AnswersChange c (situation_of c h) sid given spec (replies.Changed (Some p))))
+        (given_of-life c h sid known.good lives.0 lives.1) both.1))
 
     unchanged : (sid : ℕ) (spec : FlowSpec) → IsStep c h (calls.Change sid spec) (replies.Changed None)
         → AreFew (h ++ record { stamp = stamp; call = calls.Change sid spec; reply = replies.Changed None } ∷ [])
     unchanged sid spec step k =
         let both = accepted c h (calls.Change sid spec) (replies.Changed None) (λ r refuses. cc) step in
-        let known = (passed-change c h sid spec both.0).known in
-        let lives = known-life sid h known in
+        let known = (passed-change c (situation_of c h) sid spec both.0).known in
+        let lives = known-life c h sid known in
         rw (table_of-change_unplaced stamp h sid spec lives.0 lives.1) (omega (
           arith,
           few k,

@@ -26,6 +26,7 @@ use Rattle.sched_history.specs.Refusal.{bad_sid, is_sid_of_priorities, is_to_bad
 use Rattle.sched_history.specs.Reserves.{last_map, aged, new_reserve, left_by, met_by}
 use Rattle.sched_history.specs.Reserves.{reserve_by, reserves_by, reserves_with, reserves_of, waiting_in}
 use Rattle.sched_history.specs.History.{IsStep, IsLegal}
+use Rattle.sched_history.specs.Situation.{situation_of}
 use Rattle.sched_history.proofs.lives.Finding.{good_sid}
 use Rattle.sched_history.proofs.steps.LegalHistories.{accepted, legal_induction}
 use Rattle.sched_history.proofs.steps.Passed.{MayReserve, passed-reserve}
@@ -92,7 +93,7 @@ reserves-more : (c : Config) (h : List Entry) (call : Call) (reply : Reply) (rs 
     → IsStep c h call reply → AreReserves c rs
     → AreReserves c (reserves_with (reserve_by call reply) (reserves_by c h reply rs))
 reserves-more c h (calls.Reserve usage slots) replies.Reserved rs same step are =
-    let may : MayReserve c h usage slots = passed-reserve c h usage slots
+    let may : MayReserve c (situation_of c h) usage slots = passed-reserve c (situation_of c h) usage slots
     (accepted c h (calls.Reserve usage slots) replies.Reserved (λ r refuses. cc) step).0 in
     let o : Opportunity = record { usage = usage; slots = slots } in (
       all-push (IsReserve c) rs (new_reserve o) are.0 (record {

@@ -14,7 +14,7 @@ use Rattle.sched_calls.specs.declared.amount.Amount.TheVariants.{Bytes}
 use Rattle.sched_calls.specs.declared.call.Call.TheVariants.{Admit, Ask, Build, Status}
 use Rattle.sched_calls.specs.declared.reply.Reply.TheVariants.{Admitted, Taken, Built, Flow}
 use Rattle.sched_calls.specs.declared.reply.Entry.{Entry}
-use Rattle.sched_history.specs.Life.{Life, life_of}
+use Rattle.sched_history.specs.Life.{Life, life_of, sids}
 use Rattle.sched_history.specs.History.{IsStep, IsLegal}
 use Rattle.sched_history.proofs.lives.LiveFlows.{flows_of-none, flows_of-one, table_of-unplaced_one}
 use Rattle.sched_history.proofs.rows.NextMap.{IsNextMap-from_lawful}
@@ -105,10 +105,12 @@ grants_nothing = (
 
 -- a status sums the requests and the data grants of all MAPs since the admission
 pub a_status_sums_requests_and_grants : IsStep base (asked four) (Status 17) (Flow 3000 1616 1384)
+unfolding sids
 a_status_sums_requests_and_grants = refl
 
 -- the history is legal
 pub four_maps_under_a_ceiling : IsLegal base (asked (four ++ entry 7 (Status 17) (Flow 3000 1616 1384) ∷ []))
+unfolding sids
 four_maps_under_a_ceiling = (
   the_first_map_may_follow_nothing,
   (admits, (refl, (grants_first, (grants_second, (grants_third, (grants_nothing, (refl, tt))))))),

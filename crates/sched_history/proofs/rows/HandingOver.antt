@@ -5,6 +5,7 @@ use Rattle.sched_calls.proofs.Base.{base}
 use Rattle.sched_calls.specs.declared.call.Call.TheVariants.{Status}
 use Rattle.sched_calls.specs.declared.reply.Reply.TheVariants.{Flow}
 use Rattle.sched_calls.specs.declared.reply.Entry.{Entry}
+use Rattle.sched_history.specs.Life.{sids}
 use Rattle.sched_history.specs.History.{IsStep}
 use Rattle.sched_history.specs.Machine.{Machine, kept_of, is_full}
 use Rattle.sched_history.proofs.rows.TwoMaps.{built, admitted, asked}
@@ -48,4 +49,5 @@ one_kept_of_three_is_not_full = refl
 -- a status counts what was asked in entries that were handed over
 pub a_status_counts_what_was_handed_over : let m = with_handed 3 (built ∷ admitted ∷ asked ∷ []) in
     IsStep m.config m.history (Status 17) (Flow 100 0 100)
+unfolding sids
 a_status_counts_what_was_handed_over = refl

@@ -11,7 +11,7 @@ use Rattle.sched_calls.specs.declared.amount.Amount.TheVariants.{Bytes}
 use Rattle.sched_calls.specs.declared.call.Call.TheVariants.{Admit, Remove, Ask, Build, Status}
 use Rattle.sched_calls.specs.declared.reply.Reply.TheVariants.{Admitted, Removed, Taken, Built, Flow}
 use Rattle.sched_calls.specs.declared.reply.Entry.{Entry}
-use Rattle.sched_history.specs.Life.{Life, life_of}
+use Rattle.sched_history.specs.Life.{Life, life_of, sids}
 use Rattle.sched_history.specs.History.{IsStep, IsLegal}
 use Rattle.sched_history.proofs.lives.LiveFlows.{flows_of-none, flows_of-one, table_of-unplaced_one}
 use Rattle.sched_history.proofs.rows.NextMap.{IsNextMap-from_lawful}
@@ -87,6 +87,7 @@ admits_again = rw (flows_of-none base ended none) refl
 -- a new life begins with nothing asked and nothing granted
 pub a_new_life_begins_at_nothing : IsStep base (ended ++ entry 5 (Admit 17 spec) (Admitted None) ∷ []) (Status 17)
     (Flow 0 0 0)
+unfolding sids
 a_new_life_begins_at_nothing = refl
 
 -- its first grant has a whole burst before it, whatever the old life took
@@ -101,6 +102,7 @@ grants_again = (
 
 -- the history of both lives is legal
 pub a_new_life_forgets_the_old : IsLegal base (begun_again ++ entry 8 (Build 840) (Built whole_grant) ∷ [])
+unfolding sids
 a_new_life_forgets_the_old = (
   the_first_map_may_follow_nothing,
   (admits, (refl, (grants, (refl, (admits_again, (a_new_life_begins_at_nothing, (refl, (grants_again, tt)))))))),

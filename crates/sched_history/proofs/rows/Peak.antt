@@ -16,7 +16,7 @@ use Rattle.sched_calls.specs.declared.amount.Amount.TheVariants.{Bytes}
 use Rattle.sched_calls.specs.declared.call.Call.TheVariants.{Admit, Ask, Build, Status}
 use Rattle.sched_calls.specs.declared.reply.Reply.TheVariants.{Admitted, Taken, Built, Flow}
 use Rattle.sched_calls.specs.declared.reply.Entry.{Entry}
-use Rattle.sched_history.specs.Life.{Life, life_of}
+use Rattle.sched_history.specs.Life.{Life, life_of, sids}
 use Rattle.sched_history.specs.History.{IsStep, IsLegal}
 use Rattle.sched_history.proofs.lives.LiveFlows.{flows_of-none, flows_of-one, table_of-unplaced_one}
 use Rattle.sched_history.proofs.rows.NextMap.{IsNextMap-from_lawful}
@@ -107,6 +107,7 @@ grants_nothing = (
 
 -- the history is legal, and has granted 1538 bytes
 pub four_maps_under_a_peak : IsLegal base (asked (four ++ entry 7 (Status 17) (Flow 3000 1538 1462) ∷ []))
+unfolding sids
 four_maps_under_a_peak = (
   the_first_map_may_follow_nothing,
   (admits, (refl, (grants_first, (grants_second, (grants_third, (grants_nothing, (refl, tt))))))),

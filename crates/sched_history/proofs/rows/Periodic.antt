@@ -13,7 +13,7 @@ use Rattle.map_build.proofs.RowsUnsolicited.{double_voices, double_map, a_frame_
 use Rattle.sched_calls.specs.declared.call.Call.TheVariants.{Admit, Build, Status}
 use Rattle.sched_calls.specs.declared.reply.Reply.TheVariants.{Admitted, Built, Flow}
 use Rattle.sched_calls.specs.declared.reply.Entry.{Entry}
-use Rattle.sched_history.specs.Life.{Life, life_of}
+use Rattle.sched_history.specs.Life.{Life, life_of, sids}
 use Rattle.sched_history.specs.History.{IsStep, IsLegal}
 use Rattle.sched_history.proofs.lives.LiveFlows.{flows_of-none, flows_of-one, flows_of-two}
 use Rattle.sched_history.proofs.lives.LiveFlows.{table_of-none, table_of-one, table_of-two}
@@ -92,6 +92,7 @@ two_unsolicited_flows_and_their_map = (
 -- the status of an unsolicited flow shows zeros
 pub an_unsolicited_flow_shows_zeros : IsStep base (first ∷ second ∷ entry 2 (Build 760) (Built unsolicited_map) ∷ [])
     (Status 5) (Flow 0 0 0)
+unfolding sids
 an_unsolicited_flow_shows_zeros = refl
 
 -- a flow with two grants in each interval, where it stands, its admission and its life

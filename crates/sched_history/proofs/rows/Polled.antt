@@ -13,7 +13,7 @@ use Rattle.sched_calls.specs.declared.amount.Amount.TheVariants.{Bytes}
 use Rattle.sched_calls.specs.declared.call.Call.TheVariants.{Admit, Ask, Build}
 use Rattle.sched_calls.specs.declared.reply.Reply.TheVariants.{Admitted, Taken, Built}
 use Rattle.sched_calls.specs.declared.reply.Entry.{Entry}
-use Rattle.sched_history.specs.Life.{Life, life_of}
+use Rattle.sched_history.specs.Life.{Life, life_of, sids}
 use Rattle.sched_history.specs.History.{IsStep, IsLegal}
 use Rattle.sched_history.proofs.lives.LiveFlows.{flows_of-none, flows_of-one, table_of-none, table_of-one}
 use Rattle.sched_history.proofs.rows.NextMap.{idle_map, IsNextMap-from_lawful}
@@ -101,4 +101,5 @@ does_not_poll = (
 -- the history, with a request that was heard in the poll, is legal
 pub a_polled_flow_is_polled_and_asks : IsLegal base
     (admission ∷ with_poll ∷ without_poll ∷ entry 3 (Ask 0 9 (Bytes 16) 805) Taken ∷ [])
+unfolding sids
 a_polled_flow_is_polled_and_asks = (admits, (polls, (does_not_poll, (refl, tt))))

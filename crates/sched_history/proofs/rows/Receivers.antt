@@ -8,6 +8,7 @@ use Rattle.sched_calls.specs.declared.call.Call.TheVariants.{Admit, Ask, Heard, 
 use Rattle.sched_calls.specs.declared.reply.Refusal.TheVariants.{BadReceiver, Acked, Ahead, Backwards}
 use Rattle.sched_calls.specs.declared.reply.Reply.TheVariants.{Admitted, Noted, Built, Refused}
 use Rattle.sched_calls.specs.declared.reply.Entry.{Entry}
+use Rattle.sched_history.specs.Life.{sids}
 use Rattle.sched_history.specs.Time.{next_after, ack_after}
 use Rattle.sched_history.specs.History.{IsStep, IsLegal}
 use Rattle.sched_history.proofs.rows.NextMap.{idle_map, IsNextMap-idle}
@@ -71,6 +72,7 @@ maps_carry_the_acknowledge_time = (
 
 -- a request heard before the progress of its receiver is refused
 pub a_request_before_the_progress_is_refused : IsStep pair all (Ask 0 17 (Bytes 10) 839) (Refused (Acked 840))
+unfolding sids
 a_request_before_the_progress_is_refused = refl
 
 -- progress does not go back

@@ -11,7 +11,7 @@ use Rattle.sched_calls.specs.declared.amount.Amount.TheVariants.{Bytes}
 use Rattle.sched_calls.specs.declared.call.Call.TheVariants.{Admit, Ask, Build}
 use Rattle.sched_calls.specs.declared.reply.Reply.TheVariants.{Admitted, Taken, Built}
 use Rattle.sched_calls.specs.declared.reply.Entry.{Entry}
-use Rattle.sched_history.specs.Life.{Life, life_of}
+use Rattle.sched_history.specs.Life.{Life, life_of, sids}
 use Rattle.sched_history.specs.History.{IsStep, IsLegal}
 use Rattle.sched_history.proofs.lives.LiveFlows.{flows_of-none, flows_of-one, flows_of-two, table_of-unplaced_two}
 use Rattle.sched_history.proofs.rows.NextMap.{IsNextMap-from_lawful}
@@ -108,6 +108,7 @@ serves_again = (
 
 -- the history is legal
 pub three_maps_of_two_flows : IsLegal base (asked (turn ∷ other_turn ∷ entry 7 (Build 880) (Built third_turn) ∷ []))
+unfolding sids
 three_maps_of_two_flows = (
   the_first_map_may_follow_nothing,
   (admits, (admits_another, (refl, (refl, (serves_lower, (serves_other, (serves_again, tt))))))),

@@ -12,7 +12,7 @@ use Rattle.sched_calls.specs.declared.call.Call.TheVariants.{Admit, Ask, Build}
 use Rattle.sched_calls.specs.declared.reply.Reply.{Reply}
 use Rattle.sched_calls.specs.declared.reply.Reply.TheVariants.{Admitted, Taken, Built}
 use Rattle.sched_calls.specs.declared.reply.Entry.{Entry}
-use Rattle.sched_history.specs.Life.{Life, life_of}
+use Rattle.sched_history.specs.Life.{Life, life_of, sids}
 use Rattle.sched_history.specs.History.{IsStep, IsLegal}
 use Rattle.sched_history.proofs.lives.LiveFlows.{flows_of-none, flows_of-one, table_of-none, table_of-unplaced_one}
 use Rattle.sched_history.proofs.rows.NextMap.{IsNextMap-from_lawful}
@@ -53,6 +53,7 @@ a_flow_may_be_admitted = rw (flows_of-none base (built ∷ []) (λ sid. refl)) r
 
 -- then it may ask for 100 bytes
 a_flow_may_ask : IsStep base (built ∷ admitted ∷ []) (Ask 0 17 (Bytes 100) 801) Taken
+unfolding sids
 a_flow_may_ask = refl
 
 -- its life by then

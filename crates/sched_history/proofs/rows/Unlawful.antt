@@ -13,6 +13,7 @@ use Rattle.sched_calls.specs.declared.amount.Amount.TheVariants.{Bytes}
 use Rattle.sched_calls.specs.declared.call.Call.TheVariants.{Ask, Build}
 use Rattle.sched_calls.specs.declared.reply.Reply.TheVariants.{Built, Refused}
 use Rattle.sched_calls.specs.declared.reply.Refusal.TheVariants.{Ahead, Late}
+use Rattle.sched_history.specs.Life.{sids}
 use Rattle.sched_history.specs.History.{IsStep}
 use Rattle.sched_history.proofs.lives.LiveFlows.{flows_of-none, table_of-none}
 use Rattle.sched_history.proofs.rows.NextMap.{lawful-from_IsNextMap}
@@ -48,6 +49,7 @@ another_acknowledge_time_is_no_step step = omega (arith, ap (λ m. m.ack) (the_f
 pub a_refusal_without_cause_is_no_step : IsStep base (built ∷ admitted ∷ []) (Ask 0 17 (Bytes 100) 801) (Refused
     (Ahead 840))
     → ⊥
+unfolding sids
 a_refusal_without_cause_is_no_step step = cc
 
 -- nor with another number than the test's

@@ -4,8 +4,7 @@ use Rattle.minislots.specs.declared.config.Config.{Config}
 use Rattle.sched_calls.specs.declared.frame_map.FrameMap.{FrameMap}
 use Rattle.sched_calls.specs.declared.reply.Reply.TheVariants as replies
 use Rattle.sched_calls.specs.declared.reply.Entry.{Entry}
-use Rattle.sched_history.specs.ChannelState.{ack_behind, last_ack}
-use Rattle.sched_history.specs.Settling.{maps_of}
+use Rattle.sched_history.specs.Settling.{maps_of, ack_behind, last_ack}
 use Rattle.sched_history.specs.Time.{is_built}
 use Rattle.sched_history.proofs.lists.Latests.{said-push}
 use Rattle.sched_history.proofs.settling.SettlingAfter.{unbuilt}

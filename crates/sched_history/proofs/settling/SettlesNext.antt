@@ -12,7 +12,7 @@ use Rattle.sched_history.specs.declared.scheduler.state.State.{State}
 use Rattle.sched_history.specs.Time.{next_after}
 use Rattle.sched_history.specs.Reserves.{header_after}
 use Rattle.sched_history.specs.Settling.{map_by, maps_of, changes_in, changes_of, last_of, count_after}
-use Rattle.sched_history.specs.Settling.{is_near, settles_after}
+use Rattle.sched_history.specs.Settling.{is_near, settles_after, settles_by_any}
 use Rattle.sched_history.specs.History.{IsStep, IsLegal}
 use Rattle.sched_history.specs.State.{settles_next, IsStateAfter}
 use Rattle.sched_history.proofs.steps.LegalHistories.{Builds, Skips, Stays, change_by_step, legal_induction}
@@ -84,11 +84,12 @@ module _ (settle next : ℕ) where
     pub near-legal : (h : List Entry) → IsLegal c h → is_any (changes_of c h) ≡ is_last (changes_of c h)
     near-legal = legal_induction c (λ h. is_any (changes_of c h) ≡ is_last (changes_of c h)) near-more refl
 
--- so the MAP of the next frame settles by what is kept where it does after the history
-pub settles_next-after : (s : State) (h : List Entry) → IsStateAfter s h → IsLegal s.config h
-    → settles_next s ≡ settles_after s.config h
-settles_next-after s h is_after legal =
-    rw (is_after.settling, is_after.header, is_after.next)
-    (ap (λ near. nat_lt 0 s.config.settle
-    && (not ((header_after s.config h).ucd_count == count_after s.config h) || near))
-    (sym (near-legal s.config.settle (next_after s.config h) s.config h legal)))
+-- so the MAP of the next frame of a legal history settles by the last change where it does by every one
+pub settles_by_any-legal : (c : Config) (h : List Entry) → IsLegal c h → settles_after c h ≡ settles_by_any c h
+settles_by_any-legal c h legal =
+    ap (λ near. nat_lt 0 c.settle && (not ((header_after c h).ucd_count == count_after c h) || near))
+    (sym (near-legal c.settle (next_after c h) c h legal))
+
+-- and by what is kept where it does after the history
+pub settles_next-after : (s : State) (h : List Entry) → IsStateAfter s h → settles_next s ≡ settles_after s.config h
+settles_next-after s h is_after = rw (is_after.settling, is_after.header, is_after.next) refl

@@ -55,29 +55,29 @@ module _ (s : State) (h : List Entry) (is_after : IsStateAfter s h) where
   ack-after = ap least progress-after
 
   -- what the next frame has to serve, by what is kept, is what it has after the history
-  pub next_demand-after : IsLegal s.config h → next_demand s ≡ demand_after s.config h
-  next_demand-after legal =
+  pub next_demand-after : next_demand s ≡ demand_after s.config h
+  next_demand-after =
       let same : record (next_demand s) { settles = settles_after s.config h } ≡ demand_after s.config h =
       rw (is_after.flows, is_after.next, is_after.placed, is_after.reserves) refl in
-      ap (λ b. record (next_demand s) { settles = b }) (settles_next-after s h is_after legal) ∙ same
+      ap (λ b. record (next_demand s) { settles = b }) (settles_next-after s h is_after) ∙ same
 
   -- a lawful MAP of what is kept is that of the next frame
-  pub IsNextMap-after : IsLegal s.config h → (m : FrameMap)
+  pub IsNextMap-after : (m : FrameMap)
       → IsLawfulMap s.config (next_demand s) s.header (least (take s.config.receivers s.progress)) m
       → IsNextMap s.config h m
-  IsNextMap-after legal m lawful =
+  IsNextMap-after m lawful =
       subst (λ ack. IsLawfulMap s.config (demand_after s.config h) (header_after s.config h) ack m) ack-after
       (subst (λ header. IsLawfulMap s.config (demand_after s.config h) header
       (least (take s.config.receivers s.progress)) m) is_after.header
       (subst (λ d. IsLawfulMap s.config d s.header (least (take s.config.receivers s.progress)) m)
-      (next_demand-after legal) lawful))
+      next_demand-after lawful))
 
   -- and the other way round
-  pub IsLawfulMap-after : IsLegal s.config h → (m : FrameMap) → IsNextMap s.config h m
+  pub IsLawfulMap-after : (m : FrameMap) → IsNextMap s.config h m
       → IsLawfulMap s.config (next_demand s) s.header (least (take s.config.receivers s.progress)) m
-  IsLawfulMap-after legal m next =
+  IsLawfulMap-after m next =
       subst (λ d. IsLawfulMap s.config d s.header (least (take s.config.receivers s.progress)) m)
-      (sym (next_demand-after legal))
+      (sym next_demand-after)
       (subst (λ header. IsLawfulMap s.config (demand_after s.config h) header
       (least (take s.config.receivers s.progress)) m) (sym is_after.header)
       (subst (λ ack. IsLawfulMap s.config (demand_after s.config h) (header_after s.config h) ack m)
@@ -100,20 +100,20 @@ module _ (s : State) (h : List Entry) (is_after : IsStateAfter s h) where
         ≡ reserves_of s.config (h ++ record { stamp = stamp; call = Build now; reply = Built p.map } ∷ [])
     reserves_of-planned legal =
         let plan : IsPlan s.config (demand_after s.config h) frame.plan =
-        subst (λ d. IsPlan s.config d frame.plan) (next_demand-after legal) frame.is_plan in
+        subst (λ d. IsPlan s.config d frame.plan) next_demand-after frame.is_plan in
         let elements : p.map.wire.elements ≡ elements_of s.config (demand_after s.config h) frame.plan =
         ap (λ (m : FrameMap). m.wire.elements) frame.map
-        ∙ ap (λ (d : Demand). elements_of s.config d frame.plan) (next_demand-after legal) in
+        ∙ ap (λ (d : Demand). elements_of s.config d frame.plan) next_demand-after in
         left_behind-marks s.config h legal frame.plan plan p.met frame.met
         ∙ ap (λ es. reserves_behind s.config h es (reserves_of s.config h)) (sym elements)
         ∙ sym (reserves_of-built s.config h (record { stamp = stamp; call = Build now; reply = Built p.map }) p.map refl)
 
   -- the Reserves that are kept after a MAP are those that it leaves
-  pub reserves-behind : IsLegal s.config h → (met : List Bool)
+  pub reserves-behind : (met : List Bool)
       → (if settles_next s then s.reserves else aged (unmarked met s.reserves))
       ≡ left_behind (settles_after s.config h) met (reserves_of s.config h)
-  reserves-behind legal met =
-      ap (λ b. if b then s.reserves else aged (unmarked met s.reserves)) (settles_next-after s h is_after legal)
+  reserves-behind met =
+      ap (λ b. if b then s.reserves else aged (unmarked met s.reserves)) (settles_next-after s h is_after)
       ∙ ap (left_behind (settles_after s.config h) met) is_after.reserves
 
   module _ (bounded : IsBounded s.config s.book.flows s.next (length h)) where

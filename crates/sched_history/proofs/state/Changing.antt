@@ -27,16 +27,18 @@ use Rattle.sched_calls.specs.declared.reply.Refusal.TheVariants.{NoPlace}
 use Rattle.sched_calls.specs.declared.reply.Entry.{Entry}
 use Rattle.sched_history.specs.Life.{Admission, Life, life_of, given_in, rests_in, flow_in_life, placed_in_life, flows_of}
 use Rattle.sched_history.specs.Life.{table_of}
-use Rattle.sched_history.specs.Refusal.{bad_sid, periodic_grants, other_grants}
+use Rattle.sched_history.specs.Situation.{Situation, situation_of, given_of}
+use Rattle.sched_history.specs.Refusal.{periodic_grants, other_grants}
 use Rattle.sched_history.specs.Time.{next_after}
 use Rattle.sched_history.specs.History.{PlacesAnew, AnswersChange, Answers, IsLegal}
 use Rattle.sched_history.specs.Machine.{TellsPlace, TakesMemory}
 use Rattle.sched_history.specs.State.{IsStateAfter, IsOpenTo}
-use Rattle.sched_history.proofs.lives.Finding.{good_sid, flow_of-flows_of, flows_of-channel, table_of-ascends}
+use Rattle.sched_history.proofs.lives.Finding.{flows_of-channel, table_of-ascends}
+use Rattle.sched_history.proofs.lives.Left.{flow_of-left, given_of-life}
 use Rattle.sched_history.proofs.lives.FlowsAfter.{placed_with}
 use Rattle.sched_history.proofs.placements.Counts.{life_of-pairs, grants-placed_by}
 use Rattle.sched_history.proofs.placements.Given.{known-life}
-use Rattle.sched_history.proofs.state.Present.{flow_of-after, find-after, placement-some, IsLive-after}
+use Rattle.sched_history.proofs.state.Present.{flow_of-kept, find-after, placement-some, IsLive-after}
 use Rattle.sched_history.proofs.state.Present.{without_placed-none}
 use Rattle.sched_history.proofs.steps.Passed.{IsKnown, ChangesFlow, passed-change}
 
@@ -98,37 +100,37 @@ grants-others sid f (g ∷ flows) up found =
           )))
     ]
 
--- a life with these parameters
-some-of : (sid : ℕ) (o : Option Life) (old : FlowSpec) → option_map (λ life. (given_in sid life).spec) o ≡ Some old
-    → (life : Life) × (o ≡ Some life) × ((given_in sid life).spec ≡ old)
-some-of sid None old is = absurd cc
-some-of sid (Some life) old is = (life, refl, cc)
+-- a flow with these parameters
+some-of : (o : Option LiveFlow) (old : FlowSpec) → option_map (λ f. f.spec) o ≡ Some old
+    → (f : LiveFlow) × (o ≡ Some f) × (f.spec ≡ old)
+some-of None old is = absurd cc
+some-of (Some f) old is = (f, refl, cc)
 
 -- the grants of the other flows, and those of the flow with these parameters, are all
-pub other-grants : (c : Config) (h : List Entry) (sid : ℕ) (old : FlowSpec) → bad_sid sid ≡ false
-    → option_map (λ life. (given_in sid life).spec) (life_of sid h) ≡ Some old
+pub other-grants : (c : Config) (h : List Entry) (sid : ℕ) (old : FlowSpec)
+    → option_map (λ f. f.spec) (flow_of sid (flows_of c h)) ≡ Some old
     → other_grants c sid h + grants_of old ≡ periodic_grants c h
-other-grants c h sid old good is =
-    let life = some-of sid (life_of sid h) old is in
-    let found : flow_of sid (flows_of c h) ≡ Some (flow_in_life c sid life.0) =
-    flow_of-flows_of c sid h (good_sid sid good).0 (good_sid sid good).1
-    ∙ ap (option_map (flow_in_life c sid)) life.1 in
-    let all = grants-others sid (flow_in_life c sid life.0) (flows_of c h) (flows_of-channel c h).ascend found in
-    omega (arith, all, ap grants_of life.2)
+other-grants c h sid old is =
+    let found = some-of (flow_of sid (flows_of c h)) old is in
+    let all = grants-others sid found.0 (flows_of c h) (flows_of-channel c h).ascend found.1 in
+    omega (arith, all, ap grants_of found.2)
 
 module _ (s : State) (h : List Entry) (sid : ℕ) (is_after : IsStateAfter s h) (legal : IsLegal s.config h)
-    (known : IsKnown h sid) where
+    (known : IsKnown (situation_of s.config h) sid) where
   -- its life
   pub known-in : (life : Life) × (life_of sid h ≡ Some life)
-  known-in = known-life sid h known
+  known-in = known-life s.config h sid known
 
   -- what it was given
   abbrev pub given : Admission
   given = given_in sid known-in.0
 
   -- its flow
+  pub left-known : flow_of sid (flows_of s.config h) ≡ Some (flow_in_life s.config sid known-in.0)
+  left-known = flow_of-left s.config h sid known.good ∙ ap (option_map (flow_in_life s.config sid)) known-in.1
+
   pub flow-known : flow_of sid s.book.flows ≡ Some (flow_in_life s.config sid known-in.0)
-  flow-known = flow_of-after s h sid is_after known.good ∙ ap (option_map (flow_in_life s.config sid)) known-in.1
+  flow-known = flow_of-kept s h sid is_after ∙ left-known
 
   -- and its placement
   pub placed-known : find (λ p. p.sid == sid) s.table.placed
@@ -144,7 +146,7 @@ module _ (s : State) (h : List Entry) (sid : ℕ) (is_after : IsStateAfter s h) 
   -- the grants of the other flows and its own are all
   pub others-known : other_grants s.config sid h + grants_of given.spec ≡ periodic_grants s.config h
   others-known =
-      other-grants s.config h sid given.spec known.good (ap (option_map (λ life. (given_in sid life).spec)) known-in.1)
+      other-grants s.config h sid given.spec (ap (option_map (λ f. f.spec)) left-known)
 
   -- so have the other placed flows
   pub placed-others : (f : Placed) → find (λ p. p.sid == sid) s.table.placed ≡ Some f → f.spec ≡ given.spec
@@ -154,10 +156,10 @@ module _ (s : State) (h : List Entry) (sid : ℕ) (is_after : IsStateAfter s h) 
       let rest = grants-without sid f s.table.placed found up in
       omega (arith, rest, others-known, ap grants_of same, grants-placed_by s h is_after legal)
 
--- what holds of the parameters of a life holds of those of its flow
-of-life : (test : FlowSpec → Bool) (o : Option Life) (life : Life) (sid : ℕ) (b : Bool) → o ≡ Some life
-    → option_map_or (λ l. test (given_in sid l).spec) o false ≡ b → test (given_in sid life).spec ≡ b
-of-life test o life sid b lives is = rw lives at is
+-- what holds of the parameters of the live flow holds of those of the flow that is found
+of-flow : (test : FlowSpec → Bool) (o : Option LiveFlow) (f : LiveFlow) (b : Bool) → o ≡ Some f
+    → option_map_or (λ g. test g.spec) o false ≡ b → test f.spec ≡ b
+of-flow test o f b found is = rw found at is
 
 -- a placement that stands
 some-placement : (o : Option Placement) → is_some o ≡ true → (p : Placement) × (o ≡ Some p)
@@ -173,47 +175,47 @@ no-placement (Some p) is = absurd cc
 same_changed : (p q : Placement) → replies.Changed (Some p) ≡ replies.Changed (Some q) → p ≡ q
 same_changed p q same = cc
 
-module _ (c : Config) (h : List Entry) (sid : ℕ) (given : Admission) (spec : FlowSpec) (p : Placement) where
+module _ (c : Config) (x : Situation) (sid : ℕ) (given : Admission) (spec : FlowSpec) (p : Placement) where
   -- the placement of a flow that keeps its place
   pub kept-answer : has_place_of given.spec spec ≡ true → is_periodic spec ≡ true
-      → AnswersChange c h sid given spec (replies.Changed (Some p))
-      → IsSomeAnd given.placement (λ stands. IsToldFrom c spec (next_after c h) stands p)
+      → AnswersChange c x sid given spec (replies.Changed (Some p))
+      → IsSomeAnd given.placement (λ stands. IsToldFrom c spec x.next stands p)
   kept-answer same periodic (inl kept) =
-      subst (λ q. IsSomeAnd given.placement (λ stands. IsToldFrom c spec (next_after c h) stands q))
+      subst (λ q. IsSomeAnd given.placement (λ stands. IsToldFrom c spec x.next stands q))
       (sym (same_changed p kept.1.0 kept.1.2)) kept.1.1
   kept-answer same periodic (inr (inl anew)) = absurd (let apart : true ≡ false = sym same ∙ anew.0 in cc)
   kept-answer same periodic (inr (inr none)) = absurd (let apart : true ≡ false = sym periodic ∙ none.0 in cc)
 
-  anew-answer : PlacesAnew c h sid spec (replies.Changed (Some p))
-      → IsPlacement c (without sid (table_of h)) spec (next_after c h) p
+  anew-answer : PlacesAnew c x sid spec (replies.Changed (Some p))
+      → IsPlacement c (without sid x.placed) spec x.next p
   anew-answer (inl placed) =
-      subst (λ q. IsPlacement c (without sid (table_of h)) spec (next_after c h) q)
+      subst (λ q. IsPlacement c (without sid x.placed) spec x.next q)
       (sym (same_changed p placed.0 placed.2)) placed.1
   anew-answer (inr refused) = absurd (let apart = refused.1 in cc)
 
   -- the placement of one that is placed anew
   pub placed-answer : has_place_of given.spec spec ≡ false → is_periodic spec ≡ true
-      → AnswersChange c h sid given spec (replies.Changed (Some p))
-      → IsPlacement c (without sid (table_of h)) spec (next_after c h) p
+      → AnswersChange c x sid given spec (replies.Changed (Some p))
+      → IsPlacement c (without sid x.placed) spec x.next p
   placed-answer other periodic (inl kept) = absurd (let apart : true ≡ false = sym kept.0 ∙ other in cc)
   placed-answer other periodic (inr (inl anew)) = anew-answer anew.2
   placed-answer other periodic (inr (inr none)) = absurd (let apart : true ≡ false = sym periodic ∙ none.0 in cc)
 
-module _ (c : Config) (h : List Entry) (sid : ℕ) (given : Admission) (spec : FlowSpec) where
-  anew-refused : PlacesAnew c h sid spec (replies.Refused NoPlace)
-      → NoPlacement c (without sid (table_of h)) spec (next_after c h)
+module _ (c : Config) (x : Situation) (sid : ℕ) (given : Admission) (spec : FlowSpec) where
+  anew-refused : PlacesAnew c x sid spec (replies.Refused NoPlace)
+      → NoPlacement c (without sid x.placed) spec x.next
   anew-refused (inl placed) = absurd (let apart = placed.2 in cc)
   anew-refused (inr refused) = refused.0
 
   -- where there is no place it is placed anew
-  pub refused-answer : AnswersChange c h sid given spec (replies.Refused NoPlace)
-      → (has_place_of given.spec spec ≡ false) × NoPlacement c (without sid (table_of h)) spec (next_after c h)
+  pub refused-answer : AnswersChange c x sid given spec (replies.Refused NoPlace)
+      → (has_place_of given.spec spec ≡ false) × NoPlacement c (without sid x.placed) spec x.next
   refused-answer (inl kept) = absurd (let apart = kept.1.2 in cc)
   refused-answer (inr (inl anew)) = (anew.0, anew-refused anew.2)
   refused-answer (inr (inr none)) = absurd (let apart = none.1 in cc)
 
   -- A periodic flow is answered with a placement, or there is no place
-  pub periodic-answer : (reply : Reply) → is_periodic spec ≡ true → AnswersChange c h sid given spec reply
+  pub periodic-answer : (reply : Reply) → is_periodic spec ≡ true → AnswersChange c x sid given spec reply
       → ((p : Placement) × (reply ≡ replies.Changed (Some p))) ⊎ (reply ≡ replies.Refused NoPlace)
   periodic-answer reply periodic (inl kept) = inl (kept.1.0, kept.1.2)
   periodic-answer reply periodic (inr (inl (other, is, inl placed))) = inl (placed.0, placed.2)
@@ -222,8 +224,8 @@ module _ (c : Config) (h : List Entry) (sid : ℕ) (given : Admission) (spec : F
 
 -- What is known where a change is open
 module _ (s : State) (h : List Entry) (sid : ℕ) (spec : FlowSpec) (opens : IsOpenTo s (calls.Change sid spec) h) where
-  abbrev pub may : ChangesFlow s.config h sid spec
-  may = passed-change s.config h sid spec opens.unrefused
+  abbrev pub may : ChangesFlow s.config (situation_of s.config h) sid spec
+  may = passed-change s.config (situation_of s.config h) sid spec opens.unrefused
 
   -- its life
   abbrev pub life : (life : Life) × (life_of sid h ≡ Some life)
@@ -234,7 +236,8 @@ module _ (s : State) (h : List Entry) (sid : ℕ) (spec : FlowSpec) (opens : IsO
   had = given_in sid life.0
 
   kind : is_kind_of spec had.spec ≡ true
-  kind = of-life (is_kind_of spec) (life_of sid h) life.0 sid true life.1 may.kind
+  kind = of-flow (is_kind_of spec) (flow_of sid (flows_of s.config h)) (flow_in_life s.config sid life.0) true
+      (left-known s h sid opens.is_after opens.legal may.known) may.kind
 
   -- it is periodic as before
   pub had-periodic : is_periodic had.spec ≡ is_periodic spec
@@ -273,21 +276,26 @@ module _ (s : State) (h : List Entry) (sid : ℕ) (spec : FlowSpec) (opens : IsO
       → has_place_of had.spec spec ≡ b
   had-place b is = rw change-found at is
 
+  -- what it was given is left
+  left-given : given_of sid (situation_of s.config h) ≡ Some had
+  left-given = given_of-life s.config h sid may.known.good life.0 life.1
+
   -- an answer of a flow that was given this is the answer
-  pub answers-given : (reply : Reply) → AnswersChange s.config h sid had spec reply
+  pub answers-given : (reply : Reply) → AnswersChange s.config (situation_of s.config h) sid had spec reply
       → Answers s.config h (calls.Change sid spec) reply
   answers-given reply answers = subst
-      (λ o. MatchOption o ⊥ (λ l. AnswersChange s.config h sid (given_in sid l) spec reply)) (sym life.1) answers
+      (λ o. MatchOption o ⊥ (λ g. AnswersChange s.config (situation_of s.config h) sid g spec reply)) (sym left-given) answers
 
   -- and the other way round
   pub given-answers : (reply : Reply) → Answers s.config h (calls.Change sid spec) reply
-      → AnswersChange s.config h sid had spec reply
+      → AnswersChange s.config (situation_of s.config h) sid had spec reply
   given-answers reply answers = subst
-      (λ o. MatchOption o ⊥ (λ l. AnswersChange s.config h sid (given_in sid l) spec reply)) life.1 answers
+      (λ o. MatchOption o ⊥ (λ g. AnswersChange s.config (situation_of s.config h) sid g spec reply)) left-given answers
 
   -- memory is taken where a placement is told
-  pub takes-given : TellsPlace s.config h sid had spec → TakesMemory s.config h (calls.Change sid spec)
-  takes-given tells = subst (λ o. MatchOption o ⊥ (λ l. TellsPlace s.config h sid (given_in sid l) spec)) (sym life.1) tells
+  pub takes-given : TellsPlace s.config (situation_of s.config h) sid had spec → TakesMemory s.config h (calls.Change sid spec)
+  takes-given tells = 
+      subst (λ o. MatchOption o ⊥ (λ g. TellsPlace s.config (situation_of s.config h) sid g spec)) (sym left-given) tells
 
   -- a flow without a place stands nowhere
   pub change-nowhere : is_periodic spec ≡ false → without sid s.table.placed ≡ s.table.placed

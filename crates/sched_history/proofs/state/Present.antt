@@ -1,6 +1,6 @@
 -- What the fields of a scheduler say of its history.
 use Rattle.std.proofs.Common.{◌≡◌, ◌≢◌, ℕ, ◌+◌, ◌*◌, ◌≤◌, ◌<◌, ◌^◌, Bool, true, false, not, ◌==◌, cond, List, []}
-use Rattle.std.proofs.Common.{◌∷◌, find, Option, None, Some, refl, sym, ap, ◌∙◌, subst, arith, length}
+use Rattle.std.proofs.Common.{◌∷◌, find, Option, None, Some, refl, sym, ap, ◌∙◌, subst, arith, length, slice_index}
 use Rattle.std.specs.Prelude.{is_some, IsSome}
 use Rattle.std.specs.List.{AllByRecursion}
 use Rattle.std.specs.Option.{option_map, option_map_or, option_and_then, IfSome, MatchOption}
@@ -19,41 +19,38 @@ use Rattle.sched_history.specs.declared.scheduler.state.State.{State}
 use Rattle.sched_calls.specs.declared.reply.Reply.{Reply}
 use Rattle.sched_calls.specs.declared.reply.Reply.TheVariants as replies
 use Rattle.sched_calls.specs.declared.reply.Entry.{Entry}
-use Rattle.sched_history.specs.Life.{Life, life_of, given_in, rests_in, flow_in_life, placed_in_life, table_of}
+use Rattle.sched_history.specs.Life.{Life, life_of, given_in, rests_in, flow_in_life, placed_in_life, flows_of}
+use Rattle.sched_history.specs.Life.{table_of}
+use Rattle.sched_history.specs.Situation.{Situation, situation_of}
 use Rattle.sched_history.specs.Refusal.{bad_sid, is_live, is_silent, most_bytes}
 use Rattle.sched_history.specs.Time.{next_after}
 use Rattle.sched_history.specs.History.{AnswersAdmit, PlacesOrRefuses, IsLegal, flow_status}
 use Rattle.sched_history.specs.Machine.{IsPlaceable}
 use Rattle.sched_history.specs.State.{IsStateAfter}
-use Rattle.sched_history.proofs.lives.Finding.{flow_of-flows_of, find-table_of, good_sid, life_of-dead}
+use Rattle.sched_history.proofs.lives.Finding.{find-table_of, good_sid}
+use Rattle.sched_history.proofs.lives.Left.{flow_of-left, life_of-dead, progress-left}
 use Rattle.sched_history.proofs.lives.FlowsAfter.{placed_with}
 use Rattle.sched_history.proofs.placements.Counts.{IsPaired, life_of-pairs}
 use Rattle.sched_history.proofs.state.Sums.{find-all}
 use Rattle.sched_history.proofs.steps.Passed.{IsKnown}
 
--- the parameters of a life
-abbrev pub spec_in : ℕ → Life → FlowSpec
-spec_in sid life = (given_in sid life).spec
+-- a flow that is found is live
+live-from_test : (o : Option LiveFlow) → is_some o ≡ true → IsSome o
+live-from_test None e = absurd cc
+live-from_test (Some f) e = refl
 
-spec-map : (c : Config) (sid : ℕ) (o : Option Life) → option_map (λ f. f.spec) (option_map (flow_in_life c sid) o)
-    ≡ option_map (spec_in sid) o
-spec-map c sid None = refl
-spec-map c sid (Some life) = refl
-
-live-from_test : (c : Config) (sid : ℕ) (o : Option Life) → is_some o ≡ true
-    → IsSome (option_map (flow_in_life c sid) o)
-live-from_test c sid None e = absurd cc
-live-from_test c sid (Some life) e = refl
+dead-from_test : (o : Option LiveFlow) → is_some o ≡ false → o ≡ None
+dead-from_test None e = refl
+dead-from_test (Some f) e = absurd cc
 
 if_some-follows : {X : Type 0} (P Q : X → Type 0) (o : Option X) → ((x : X) → P x → Q x) → IfSome o P → IfSome o Q
 if_some-follows P Q None follows holds = tt
 if_some-follows P Q (Some x) follows holds = follows x holds
 
-told : (c : Config) (sid : ℕ) (o : Option Life) (reply : Reply) → is_some o ≡ true
-    → IfSome (option_map (flow_in_life c sid) o)
-    (λ f. flow_status f ≡ reply) → MatchOption o ⊥ (λ life. reply ≡ flow_status (flow_in_life c sid life))
-told c sid None reply live same = absurd cc
-told c sid (Some life) reply live same = sym same
+told : (o : Option LiveFlow) (reply : Reply) → is_some o ≡ true → IfSome o (λ f. flow_status f ≡ reply)
+    → MatchOption o ⊥ (λ f. reply ≡ flow_status f)
+told None reply live same = absurd cc
+told (Some f) reply live same = sym same
 
 -- a life with a placement is placed
 pub placement-some : (sid : ℕ) (spec : FlowSpec) (rests : Bool) (placement : Option Placement) → is_some placement ≡ true
@@ -126,49 +123,55 @@ takes-not : (b : Bool) → not b ≡ false → b ≡ true
 takes-not true e = refl
 takes-not false e = absurd (cc)
 
-takes-in : (c : Config) (sid : ℕ) (o : Option Life)
-    → option_map_or (λ life. not (takes_requests (given_in sid life).spec)) o false ≡ false
-    → IfSome (option_map (flow_in_life c sid) o) (λ f. takes_requests f.spec ≡ true)
-takes-in c sid None asks = tt
-takes-in c sid (Some life) asks = takes-not (takes_requests (given_in sid life).spec) asks
+takes-in : (o : Option LiveFlow) → option_map_or (λ f. not (takes_requests f.spec)) o false ≡ false
+    → IfSome o (λ f. takes_requests f.spec ≡ true)
+takes-in None asks = tt
+takes-in (Some f) asks = takes-not (takes_requests f.spec) asks
+
+-- the progress of a receiver that is kept is the one that is left
+pub progress-kept : (s : State) (h : List Entry) → IsStateAfter s h → (receiver : ℕ) → receiver < s.config.receivers
+    → slice_index s.progress receiver ≡ slice_index (situation_of s.config h).progress receiver
+progress-kept s h is_after receiver below =
+    is_after.progress receiver below ∙ sym (progress-left s.config h receiver below)
 
 module _ (s : State) (h : List Entry) (sid : ℕ) (is_after : IsStateAfter s h) where
+  -- the flow of a SID is the one that is left
+  pub flow_of-kept : flow_of sid s.book.flows ≡ flow_of sid (flows_of s.config h)
+  flow_of-kept = ap (flow_of sid) is_after.flows
+
   module _ (good : bad_sid sid ≡ false) where
     -- the live flow of a SID that a flow may have
     pub flow_of-after : flow_of sid s.book.flows ≡ option_map (flow_in_life s.config sid) (life_of sid h)
-    flow_of-after = rw (is_after.flows) (flow_of-flows_of s.config sid h (good_sid sid good).0 (good_sid sid good).1)
-
-    -- and its parameters
-    pub spec_of-after : option_map (λ f. f.spec) (flow_of sid s.book.flows) ≡ option_map (spec_in sid) (life_of sid h)
-    spec_of-after = rw (flow_of-after) (spec-map s.config sid (life_of sid h))
+    flow_of-after = flow_of-kept ∙ flow_of-left s.config h sid good
 
     -- its placement
     pub find-after : find (λ p. p.sid == sid) s.table.placed ≡ option_and_then (placed_in_life sid) (life_of sid h)
     find-after = rw (is_after.placed) (find-table_of sid h (good_sid sid good).0 (good_sid sid good).1)
 
-    module _ (fresh : is_live sid h ≡ false) where
+    module _ (fresh : is_live sid (flows_of s.config h) ≡ false) where
       -- a SID that is not live has no flow
       pub flow_of-fresh : flow_of sid s.book.flows ≡ None
-      flow_of-fresh = flow_of-after ∙ ap (option_map (flow_in_life s.config sid)) (life_of-dead sid h fresh)
+      flow_of-fresh = flow_of-kept ∙ dead-from_test (flow_of sid (flows_of s.config h)) fresh
 
       -- and no placement
       pub find-fresh : find (λ p. p.sid == sid) s.table.placed ≡ None
-      find-fresh = find-after ∙ unplaced-life sid (life_of sid h) (life_of-dead sid h fresh)
+      find-fresh = find-after ∙ unplaced-life sid (life_of sid h) (life_of-dead s.config h sid good fresh)
 
-  module _ (known : IsKnown h sid) where
+  module _ (known : IsKnown (situation_of s.config h) sid) where
     -- a SID that is live has a flow
     pub IsLive-after : IsLive sid s.book.flows
-    IsLive-after = rw (flow_of-after known.good) (live-from_test s.config sid (life_of sid h) known.live)
+    IsLive-after = rw flow_of-kept (live-from_test (flow_of sid (flows_of s.config h)) known.live)
 
     -- where it asks for bytes it takes requests
-    pub takes-after : is_silent sid h ≡ false
+    pub takes-after : is_silent sid (flows_of s.config h) ≡ false
         → IfSome (flow_of sid s.book.flows) (λ f. takes_requests f.spec ≡ true)
-    takes-after asks = rw (flow_of-after known.good) (takes-in s.config sid (life_of sid h) asks)
+    takes-after asks = rw flow_of-kept (takes-in (flow_of sid (flows_of s.config h)) asks)
 
     -- the three sums are the answer to a question for its bytes
     pub status-after : (reply : Reply) → IfSome (flow_of sid s.book.flows) (λ f. flow_status f ≡ reply)
-        → MatchOption (life_of sid h) ⊥ (λ life. reply ≡ flow_status (flow_in_life s.config sid life))
-    status-after reply same = told s.config sid (life_of sid h) reply known.live (rw (flow_of-after known.good) at same)
+        → MatchOption (flow_of sid (flows_of s.config h)) ⊥ (λ f. reply ≡ flow_status f)
+    status-after reply same =
+        told (flow_of sid (flows_of s.config h)) reply known.live (rw flow_of-kept at same)
 
     module _ (legal : IsLegal s.config h) where
       -- where its flow is periodic it has a placement
@@ -189,18 +192,18 @@ module _ (s : State) (h : List Entry) (sid : ℕ) (is_after : IsStateAfter s h) 
           (unplaced-when s.config sid (life_of sid h) (λ life. life_of-pairs s.config h sid life legal)))
 
 -- a flow without a place is admitted without one
-pub answers-best_effort : (c : Config) (h : List Entry) (spec : FlowSpec) → is_periodic spec ≡ false
-    → AnswersAdmit c h spec (replies.Admitted None)
-answers-best_effort c h (Unsolicited size interval jitter grants) aperiodic = absurd cc
-answers-best_effort c h (Polled interval jitter rate burst peak) aperiodic = absurd cc
-answers-best_effort c h (BestEffort priority rate burst peak reserved reserved-burst) aperiodic = refl
+pub answers-best_effort : (c : Config) (x : Situation) (spec : FlowSpec) → is_periodic spec ≡ false
+    → AnswersAdmit c x spec (replies.Admitted None)
+answers-best_effort c x (Unsolicited size interval jitter grants) aperiodic = absurd cc
+answers-best_effort c x (Polled interval jitter rate burst peak) aperiodic = absurd cc
+answers-best_effort c x (BestEffort priority rate burst peak reserved reserved-burst) aperiodic = refl
 
 -- a periodic flow is admitted with its place
-pub answers-periodic : (c : Config) (h : List Entry) (spec : FlowSpec) (reply : Reply) → is_periodic spec ≡ true
-    → PlacesOrRefuses c h spec reply → AnswersAdmit c h spec reply
-answers-periodic c h (Unsolicited size interval jitter grants) reply periodic answers = answers
-answers-periodic c h (Polled interval jitter rate burst peak) reply periodic answers = answers
-answers-periodic c h (BestEffort priority rate burst peak reserved reserved-burst) reply periodic answers = absurd cc
+pub answers-periodic : (c : Config) (x : Situation) (spec : FlowSpec) (reply : Reply) → is_periodic spec ≡ true
+    → PlacesOrRefuses c x spec reply → AnswersAdmit c x spec reply
+answers-periodic c x (Unsolicited size interval jitter grants) reply periodic answers = answers
+answers-periodic c x (Polled interval jitter rate burst peak) reply periodic answers = answers
+answers-periodic c x (BestEffort priority rate burst peak reserved reserved-burst) reply periodic answers = absurd cc
 
 -- a placement in the table is one after the history
 pub placement-after : (s : State) (h : List Entry) (spec : FlowSpec) (p : Placement) → IsStateAfter s h
@@ -213,7 +216,7 @@ placement-after s h spec p is_after lawful =
 
 -- so there is a place for the flow
 pub IsPlaceable-after : (s : State) (h : List Entry) (spec : FlowSpec) (p : Placement) → IsStateAfter s h
-    → IsPlacement s.table.config s.table.placed spec s.next p → IsPlaceable s.config h spec
+    → IsPlacement s.table.config s.table.placed spec s.next p → IsPlaceable s.config (situation_of s.config h) spec
 IsPlaceable-after s h (Unsolicited size interval jitter grants) p is_after lawful =
     (p, placement-after s h (Unsolicited size interval jitter grants) p is_after lawful)
 IsPlaceable-after s h (Polled interval jitter rate burst peak) p is_after lawful =

@@ -10,7 +10,7 @@ use Rattle.sched_calls.specs.declared.spec.FlowSpec.{FlowSpec}
 use Rattle.sched_calls.specs.declared.spec.FlowSpec.TheVariants.{Unsolicited, Polled, BestEffort}
 use Rattle.sched_calls.specs.FlowSpec.{takes_requests}
 use Rattle.sched_calls.specs.Amount.{requested}
-use Rattle.flow_book.specs.Flows.{LiveFlow, granted, outstanding}
+use Rattle.flow_book.specs.Flows.{LiveFlow, flow_of, granted, outstanding}
 use Rattle.flow_book.specs.Book.{with_flow, without, changed, new_flow, with_asked, with_replaced, with_spec}
 use Rattle.sched_calls.specs.declared.placement.Placement.{Placement}
 use Rattle.sched_calls.specs.declared.frame_map.FrameMap.{FrameMap}
@@ -22,12 +22,14 @@ use Rattle.sched_calls.specs.declared.reply.Refusal.TheVariants.{NoPlace}
 use Rattle.sched_calls.specs.declared.reply.Reply.{Reply}
 use Rattle.sched_calls.specs.declared.reply.Reply.TheVariants as replies
 use Rattle.sched_calls.specs.declared.reply.Entry.{Entry}
-use Rattle.sched_history.specs.Life.{Admission, Life, life_of, given_in, flow_in_life, flows_of}
+use Rattle.sched_history.specs.Life.{Admission, flows_of}
 use Rattle.sched_history.specs.Time.{skip_by, is_built, next_after, IsFirstStart}
+use Rattle.sched_history.specs.Situation.{situation_of, given_of}
 use Rattle.sched_history.specs.Refusal.{most_bytes, most_ahead, last_clock, refusal_of}
 use Rattle.sched_history.specs.History.{PlacesOrRefuses, AnswersAdmit, PlacesAnew, AnswersChange, flow_status}
 use Rattle.sched_history.specs.History.{IsNextMap, Answers, IsStep}
-use Rattle.sched_history.proofs.lives.Finding.{good_sid, life_of-dead}
+use Rattle.sched_history.proofs.lives.Finding.{good_sid}
+use Rattle.sched_history.proofs.lives.Left.{life_of-dead}
 use Rattle.sched_history.proofs.lives.FlowsAfter.{LeavesFlows, flows_of-quiet}
 use Rattle.sched_history.proofs.flows.Refused.{flows_of-refused}
 use Rattle.sched_history.proofs.flows.FlowCalls.{flows_of-ask, flows_of-remove}
@@ -51,10 +53,10 @@ pub data EntryChange (c : Config) (h new : List Entry) : Type 0 where
   Replaced : (sid bytes heard : ℕ) → bytes ≤ most_bytes
       → flows_of c new ≡ changed sid (with_replaced bytes heard) (flows_of c h) → next_after c new ≡ next_after c h
       → EntryChange c h new
-  Changed : (sid : ℕ) (spec : FlowSpec) → ChangesFlow c h sid spec
+  Changed : (sid : ℕ) (spec : FlowSpec) → ChangesFlow c (situation_of c h) sid spec
       → flows_of c new ≡ changed sid (with_spec spec) (flows_of c h) → next_after c new ≡ next_after c h
       → EntryChange c h new
-  Began : (sid : ℕ) (spec : FlowSpec) → AdmitsFlow c h sid spec
+  Began : (sid : ℕ) (spec : FlowSpec) → AdmitsFlow c (situation_of c h) sid spec
       → flows_of c new ≡ with_flow (new_flow sid spec) (flows_of c h) → next_after c new ≡ next_after c h
       → EntryChange c h new
   Ended : (sid : ℕ) → flows_of c new ≡ without sid (flows_of c h) → next_after c new ≡ next_after c h
@@ -83,11 +85,11 @@ module _ (c : Config) (lawful : IsLawful c) (stamp : Stamp) (h : List Entry) whe
   refused call refusal =
       Nothing (flows_of-refused c stamp h call refusal) (same_next call (replies.Refused refusal) refl refl)
 
-  admitted : (sid : ℕ) (spec : FlowSpec) (place : Option Placement) → AdmitsFlow c h sid spec
+  admitted : (sid : ℕ) (spec : FlowSpec) (place : Option Placement) → AdmitsFlow c (situation_of c h) sid spec
       → EntryChange c h (after (calls.Admit sid spec) (replies.Admitted place))
   admitted sid spec place may =
       let good = good_sid sid may.good in
-      Began sid spec may (flows_of-admit stamp h sid spec place c (life_of-dead sid h may.fresh) good.0 good.1)
+      Began sid spec may (flows_of-admit stamp h sid spec place c (life_of-dead c h sid may.good may.fresh) good.0 good.1)
       (same_next (calls.Admit sid spec) (replies.Admitted place) refl refl)
 
   -- the change where the reply is this one
@@ -95,14 +97,14 @@ module _ (c : Config) (lawful : IsLawful c) (stamp : Stamp) (h : List Entry) whe
       → EntryChange c h (after call reply)
   by_reply call reply said is change = subst (λ r. EntryChange c h (after call r)) (sym is) change
 
-  placed : (sid : ℕ) (spec : FlowSpec) (reply : Reply) → AdmitsFlow c h sid spec → PlacesOrRefuses c h spec reply
+  placed : (sid : ℕ) (spec : FlowSpec) (reply : Reply) → AdmitsFlow c (situation_of c h) sid spec → PlacesOrRefuses c (situation_of c h) spec reply
       → EntryChange c h (after (calls.Admit sid spec) reply)
   placed sid spec reply may (inl (p, lawful, is)) =
       by_reply (calls.Admit sid spec) reply (replies.Admitted (Some p)) is (admitted sid spec (Some p) may)
   placed sid spec reply may (inr (never, is)) =
       by_reply (calls.Admit sid spec) reply (replies.Refused NoPlace) is (refused (calls.Admit sid spec) NoPlace)
 
-  admits : (sid : ℕ) (spec : FlowSpec) (reply : Reply) → AdmitsFlow c h sid spec → AnswersAdmit c h spec reply
+  admits : (sid : ℕ) (spec : FlowSpec) (reply : Reply) → AdmitsFlow c (situation_of c h) sid spec → AnswersAdmit c (situation_of c h) spec reply
       → EntryChange c h (after (calls.Admit sid spec) reply)
   admits sid (Unsolicited size interval jitter grants) reply may answers =
       placed sid (Unsolicited size interval jitter grants) reply may answers
@@ -124,12 +126,10 @@ module _ (c : Config) (lawful : IsLawful c) (stamp : Stamp) (h : List Entry) whe
   tells_sums sid true asked granted left = told sid asked granted left
   tells_sums sid false asked granted left = told sid 0 0 0
 
-  tells : (sid : ℕ) (o : Option Life) (reply : Reply)
-      → MatchOption o ⊥ (λ life. reply ≡ flow_status (flow_in_life c sid life))
+  tells : (sid : ℕ) (o : Option LiveFlow) (reply : Reply) → MatchOption o ⊥ (λ f. reply ≡ flow_status f)
       → EntryChange c h (after (calls.Status sid) reply)
   tells sid None reply answers = absurd answers
-  tells sid (Some life) reply answers =
-      let f : LiveFlow = flow_in_life c sid life in
+  tells sid (Some f) reply answers =
       by_reply (calls.Status sid) reply (flow_status f) answers
       (tells_sums sid (takes_requests f.spec) f.asked (granted f) (outstanding f))
 
@@ -140,38 +140,38 @@ module _ (c : Config) (lawful : IsLawful c) (stamp : Stamp) (h : List Entry) whe
       Nothing (flows_of-quiet c h (entry call reply) leaves) (same_next call reply skips builds)
 
   -- a change of a flow's parameters
-  gave : (sid : ℕ) (spec : FlowSpec) (place : Option Placement) → ChangesFlow c h sid spec
+  gave : (sid : ℕ) (spec : FlowSpec) (place : Option Placement) → ChangesFlow c (situation_of c h) sid spec
       → EntryChange c h (after (calls.Change sid spec) (replies.Changed place))
   gave sid spec place may =
       Changed sid spec may (flows_of-change stamp h sid spec place c)
       (same_next (calls.Change sid spec) (replies.Changed place) refl refl)
 
-  anew : (sid : ℕ) (spec : FlowSpec) (reply : Reply) → ChangesFlow c h sid spec → PlacesAnew c h sid spec reply
+  anew : (sid : ℕ) (spec : FlowSpec) (reply : Reply) → ChangesFlow c (situation_of c h) sid spec → PlacesAnew c (situation_of c h) sid spec reply
       → EntryChange c h (after (calls.Change sid spec) reply)
   anew sid spec reply may (inl (p, lawful, is)) =
       by_reply (calls.Change sid spec) reply (replies.Changed (Some p)) is (gave sid spec (Some p) may)
   anew sid spec reply may (inr (never, is)) =
       by_reply (calls.Change sid spec) reply (replies.Refused NoPlace) is (refused (calls.Change sid spec) NoPlace)
 
-  gives : (sid : ℕ) (spec : FlowSpec) (given : Admission) (reply : Reply) → ChangesFlow c h sid spec
-      → AnswersChange c h sid given spec reply → EntryChange c h (after (calls.Change sid spec) reply)
+  gives : (sid : ℕ) (spec : FlowSpec) (given : Admission) (reply : Reply) → ChangesFlow c (situation_of c h) sid spec
+      → AnswersChange c (situation_of c h) sid given spec reply → EntryChange c h (after (calls.Change sid spec) reply)
   gives sid spec given reply may (inl (same, (p, told, is))) =
       by_reply (calls.Change sid spec) reply (replies.Changed (Some p)) is (gave sid spec (Some p) may)
   gives sid spec given reply may (inr (inl (other, periodic, answers))) = anew sid spec reply may answers
   gives sid spec given reply may (inr (inr (aperiodic, is))) =
       by_reply (calls.Change sid spec) reply (replies.Changed None) is (gave sid spec None may)
 
-  changes : (sid : ℕ) (spec : FlowSpec) (o : Option Life) (reply : Reply) → ChangesFlow c h sid spec
-      → MatchOption o ⊥ (λ life. AnswersChange c h sid (given_in sid life) spec reply)
+  changes : (sid : ℕ) (spec : FlowSpec) (o : Option Admission) (reply : Reply) → ChangesFlow c (situation_of c h) sid spec
+      → MatchOption o ⊥ (λ given. AnswersChange c (situation_of c h) sid given spec reply)
       → EntryChange c h (after (calls.Change sid spec) reply)
   changes sid spec None reply may answers = absurd answers
-  changes sid spec (Some life) reply may answers = gives sid spec (given_in sid life) reply may answers
+  changes sid spec (Some given) reply may answers = gives sid spec given reply may answers
 
   skips : (now start : ℕ) → IsFirstStart c (now + c.lead) start → refusal_of c h (calls.Skip now) ≡ None
       → EntryChange c h (after (calls.Skip now) (replies.Skipped start))
   skips now start first none =
       let e : Entry = entry (calls.Skip now) (replies.Skipped start) in
-      let late = passed-skip c h now none in
+      let late = passed-skip c (situation_of c h) now none in
       let bounds : HasBounds c = bounds_of c lawful in
       let near : start < now + c.lead + c.frame =
       first_start-near c (now + c.lead) (omega (arith, bounds.frame_least)) start first in
@@ -182,7 +182,7 @@ module _ (c : Config) (lawful : IsLawful c) (stamp : Stamp) (h : List Entry) whe
   builds : (now : ℕ) (m : FrameMap) → IsNextMap c h m → refusal_of c h (calls.Build now) ≡ None
       → EntryChange c h (after (calls.Build now) (replies.Built m))
   builds now m map none =
-      let tests = passed-build c h now none in
+      let tests = passed-build c (situation_of c h) now none in
       Described m map (flows_of-build_next stamp h now m c map)
       (next_after-built c h (entry (calls.Build now) (replies.Built m)) m refl)
       (omega (arith, tests.clock, tests.early))
@@ -190,13 +190,13 @@ module _ (c : Config) (lawful : IsLawful c) (stamp : Stamp) (h : List Entry) whe
   answered : (call : Call) (reply : Reply) → refusal_of c h call ≡ None → Answers c h call reply
       → EntryChange c h (after call reply)
   answered (calls.Admit sid spec) reply none answers =
-      admits sid spec reply (passed-admit c h sid spec none) answers
+      admits sid spec reply (passed-admit c (situation_of c h) sid spec none) answers
   answered (calls.Remove sid) reply none answers =
       by_reply (calls.Remove sid) reply replies.Removed answers
       (Ended sid (flows_of-remove stamp h sid c) (same_next (calls.Remove sid) replies.Removed refl refl))
   answered (calls.Ask receiver sid amount heard) reply none answers =
       by_reply (calls.Ask receiver sid amount heard) reply replies.Taken answers
-      (Asked sid (requested c amount) heard (passed-ask c h receiver sid amount heard none).most
+      (Asked sid (requested c amount) heard (passed-ask c (situation_of c h) receiver sid amount heard none).most
       (flows_of-ask stamp h receiver sid amount heard c)
       (same_next (calls.Ask receiver sid amount heard) replies.Taken refl refl))
   answered (calls.Heard receiver upto) reply none answers =
@@ -204,11 +204,11 @@ module _ (c : Config) (lawful : IsLawful c) (stamp : Stamp) (h : List Entry) whe
       (quiet (calls.Heard receiver upto) replies.Noted (quiet-heard c receiver upto) refl refl)
   answered (calls.Replace receiver sid amount heard) reply none answers =
       by_reply (calls.Replace receiver sid amount heard) reply replies.Taken answers
-      (Replaced sid (requested c amount) heard (passed-replace c h receiver sid amount heard none).most
+      (Replaced sid (requested c amount) heard (passed-replace c (situation_of c h) receiver sid amount heard none).most
       (flows_of-replace stamp h receiver sid amount heard c)
       (same_next (calls.Replace receiver sid amount heard) replies.Taken refl refl))
   answered (calls.Change sid spec) reply none answers =
-      changes sid spec (life_of sid h) reply (passed-change c h sid spec none) answers
+      changes sid spec (given_of sid (situation_of c h)) reply (passed-change c (situation_of c h) sid spec none) answers
   answered (calls.Rest sid) reply none answers =
       by_reply (calls.Rest sid) reply replies.Noted answers
       (quiet (calls.Rest sid) replies.Noted (quiet-rest c sid) refl refl)
@@ -219,7 +219,7 @@ module _ (c : Config) (lawful : IsLawful c) (stamp : Stamp) (h : List Entry) whe
       by_reply (calls.Build now) reply (replies.Built answers.0) answers.2 (builds now answers.0 answers.1 none)
   answered (calls.Skip now) reply none answers =
       by_reply (calls.Skip now) reply (replies.Skipped answers.0) answers.2 (skips now answers.0 answers.1 none)
-  answered (calls.Status sid) reply none answers = tells sid (life_of sid h) reply answers
+  answered (calls.Status sid) reply none answers = tells sid (flow_of sid (flows_of c h)) reply answers
   answered (calls.Reserve usage slots) reply none answers =
       by_reply (calls.Reserve usage slots) reply replies.Reserved answers
       (quiet (calls.Reserve usage slots) replies.Reserved (quiet-reserve c usage slots) refl refl)

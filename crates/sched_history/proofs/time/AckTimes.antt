@@ -21,6 +21,8 @@ use Rattle.sched_history.specs.Time.{progress_by, progress_of, least, next_after
 use Rattle.sched_history.specs.Refusal.{refusal_of}
 use Rattle.sched_history.specs.History.{map_by, IsStep, IsLegal}
 use Rattle.sched_history.specs.Facts.{maps_of, IsHeardAfter}
+use Rattle.sched_history.specs.Situation.{situation_of}
+use Rattle.sched_history.proofs.lives.Left.{progress-left}
 use Rattle.sched_history.proofs.time.TimeAfter.{progress_of-same, progress_of-noted}
 use Rattle.sched_history.proofs.steps.LegalHistories.{Builds, Skips, Stays, change_by_step, accepted}
 use Rattle.sched_history.proofs.steps.LegalHistories.{legal_induction, EachAfter-from_legal}
@@ -53,9 +55,11 @@ progress_of-ascends : (c : Config) (receiver : ℕ) (h : List Entry) (e : Entry)
     → progress_of c receiver h ≤ progress_of c receiver (h ++ e ∷ [])
 progress_of-ascends c receiver h e step = elim (noted receiver e.call e.reply) [
   | inl none ↦ omega (arith, progress_of-same c receiver h e none)
-  | inr notes ↦ rw (progress_of-noted c receiver h e notes.0 notes.1.says)
-      (passed-heard c h receiver notes.0 (subst (λ k. refusal_of c h k ≡ None) notes.1.heard
-      (accepted c h e.call e.reply (λ r refuses. cc (notes.1.answer)) step).0)).forwards
+  | inr notes ↦ (
+      let heard = passed-heard c (situation_of c h) receiver notes.0 (subst (λ k. refusal_of c h k ≡ None) notes.1.heard
+      (accepted c h e.call e.reply (λ r refuses. cc (notes.1.answer)) step).0) in
+      rw (progress_of-noted c receiver h e notes.0 notes.1.says)
+      (omega (arith, heard.forwards, progress-left c h receiver heard.received)))
 ]
 
 -- the least of some numbers is at most each
@@ -116,20 +120,22 @@ module _ (c : Config) where
   heard_by : (h : List Entry) (call : Call) (reply : Reply) → IsLegal c h → IsStep c h call reply
       → IsHeardAfter (maps_of h) call reply
   heard_by h (calls.Ask receiver sid amount heard) replies.Taken legal step =
-      let passes : Asks c h receiver sid amount heard = passed-ask c h receiver sid amount heard
+      let passes : Asks c (situation_of c h) receiver sid amount heard = passed-ask c (situation_of c h) receiver sid amount heard
       (accepted c h (calls.Ask receiver sid amount heard) replies.Taken (λ r refuses. cc) step).0 in
       later_acked (ack_after c h) heard (maps_of h) (omega (
         arith,
         passes.unacked,
+        progress-left c h receiver passes.received,
         least-of
             (λ r. progress_of c r h) 0 c.receivers receiver (omega arith) (omega (arith, passes.received)),
       )) (maps_acked h legal)
   heard_by h (calls.Replace receiver sid amount heard) replies.Taken legal step =
-      let passes : Replaces c h receiver sid amount heard = passed-replace c h receiver sid amount heard
+      let passes : Replaces c (situation_of c h) receiver sid amount heard = passed-replace c (situation_of c h) receiver sid amount heard
       (accepted c h (calls.Replace receiver sid amount heard) replies.Taken (λ r refuses. cc) step).0 in
       later_acked (ack_after c h) heard (maps_of h) (omega (
         arith,
         passes.unacked,
+        progress-left c h receiver passes.received,
         least-of
             (λ r. progress_of c r h) 0 c.receivers receiver (omega arith) (omega (arith, passes.received)),
       )) (maps_acked h legal)

@@ -16,6 +16,7 @@ use Rattle.sched_history.specs.Time.{is_built, next_after, IsFirstStart}
 use Rattle.sched_history.specs.Refusal.{refusal_of}
 use Rattle.sched_history.specs.History.{IsNextMap, map_by, IsStep, IsLegal}
 use Rattle.sched_history.specs.Facts.{maps_of, StartsAscend}
+use Rattle.sched_history.specs.Situation.{situation_of}
 use Rattle.sched_history.proofs.steps.LegalHistories.{IsStill, Builds, Skips, Stays, change_by_step}
 use Rattle.sched_history.proofs.steps.LegalHistories.{accepted, legal_induction}
 use Rattle.sched_history.proofs.steps.Passed.{passed-skip}
@@ -46,7 +47,7 @@ skips_forward : (c : Config) (h : List Entry) (call : Call) (reply : Reply) (now
 skips_forward c h call reply now start step is first skips =
     let unrefused : refusal_of c h (calls.Skip now) ≡ None = subst (λ k. refusal_of c h k ≡ None) is
     (accepted c h call reply (λ r refuses. cc) step).0 in
-    omega (arith, (passed-skip c h now unrefused).late, first.reached)
+    omega (arith, (passed-skip c (situation_of c h) now unrefused).late, first.reached)
 
 -- the next frame never goes back
 pub next_after-ascends : (c : Config) (h : List Entry) (e : Entry) → IsStep c h e.call e.reply

@@ -1,9 +1,12 @@
 //! Which calls are refused: the tests in their order, of which the first that holds is answered.
 
 ghost use Rattle.std.specs.Prelude.{◌≡◌, ◌<◌, ◌≤◌, ◌+◌, Some, true, ◌∷◌, [], false, not, nat_lt, nat_le, ◌==◌, ◌||◌, ◌&&◌, option_map};
+ghost use Rattle.std.specs.Prelude.{slice_index};
 ghost use Rattle.sched_calls.specs.FlowSpec.{is_periodic, is_kind_of, grants_of, takes_requests};
-ghost use Rattle.sched_history.specs.Life.{life_of, given_in};
-ghost use Rattle.sched_history.specs.Time.{next_after, progress_of};
+ghost use Rattle.flow_book.specs.Flows.{flow_of};
+ghost use Rattle.sched_history.specs.Life.{flows_of};
+ghost use Rattle.sched_history.specs.Time.{next_after};
+ghost use Rattle.sched_history.specs.Situation.{situation_of};
 ghost use Rattle.sched_history.specs.Refusal.{bad_sid, is_to_bad_sid, is_live, is_silent, periodic_grants, refused_if};
 ghost use Rattle.sched_history.specs.Refusal.{first_of, refusal_of, is_bad_amount, is_great_amount, is_wide};
 ghost use Rattle.sched_history.specs.Refusal.{is_unsolicited, is_short_of_poll, other_grants};
@@ -161,8 +164,8 @@ impl<'a> Present<'a> {
 
     // The parameters of the live flow with this SID.
     fn spec_of(&self, sid: u16) -> Option<FlowSpec>
-        requires { bad_sid sid ≡ false }
-        ensures { result ≡ option_map (λ life. (given_in sid life).spec) (life_of sid self.now.history) }
+        ensures { result ≡ option_map (λ f. f.spec)
+            (flow_of sid (flows_of self.now.config self.now.history)) }
     {
         self.state.book.flow(sid)
     }
@@ -226,9 +229,8 @@ impl<'a> Present<'a> {
 
     // The grants per interval of the live flows but of the one with these parameters.
     fn other_grants(&self, sid: u16, old: FlowSpec) -> usize
-        requires good { bad_sid sid ≡ false }
-        requires present { option_map (λ life. (given_in sid life).spec)
-            (life_of sid self.now.history) ≡ Some old }
+        requires present { option_map (λ f. f.spec)
+            (flow_of sid (flows_of self.now.config self.now.history)) ≡ Some old }
         ensures value { result ≡ other_grants self.now.config sid self.now.history }
         ensures most { result ≤ 2560 }
     {
@@ -237,9 +239,8 @@ impl<'a> Present<'a> {
 
     // The refusal of other parameters in the place of the present ones where the grants per interval would be too many.
     fn refuse_grants(&self, sid: u16, old: FlowSpec, spec: FlowSpec) -> Option<Refusal>
-        requires good { bad_sid sid ≡ false }
-        requires present { option_map (λ life. (given_in sid life).spec)
-            (life_of sid self.now.history) ≡ Some old }
+        requires present { option_map (λ f. f.spec)
+            (flow_of sid (flows_of self.now.config self.now.history)) ≡ Some old }
         ensures { result ≡ refused_if (is_periodic spec && nat_lt self.now.config.periodic
             (other_grants self.now.config sid self.now.history + grants_of spec)) Refusal.PeriodicFull }
     {
@@ -284,7 +285,7 @@ impl<'a> Present<'a> {
     fn refuse_unknown(&self, sid: u16) -> Option<Refusal>
         ensures { result ≡ first_of (
             refused_if (bad_sid sid) Refusal.BadSid ∷
-            refused_if (not (is_live sid self.now.history)) Refusal.NoFlow ∷ []) }
+            refused_if (not (is_live sid (flows_of self.now.config self.now.history))) Refusal.NoFlow ∷ []) }
     {
         if is_bad_sid(sid) {
             Some(Refusal::BadSid)
@@ -299,8 +300,8 @@ impl<'a> Present<'a> {
     fn refuse_asker(&self, sid: u16) -> Option<Refusal>
         ensures { result ≡ first_of (
             refused_if (bad_sid sid) Refusal.BadSid ∷
-            refused_if (not (is_live sid self.now.history)) Refusal.NoFlow ∷
-            refused_if (is_silent sid self.now.history) Refusal.NotAsking ∷ []) }
+            refused_if (not (is_live sid (flows_of self.now.config self.now.history))) Refusal.NoFlow ∷
+            refused_if (is_silent sid (flows_of self.now.config self.now.history)) Refusal.NotAsking ∷ []) }
     {
         if is_bad_sid(sid) {
             return Some(Refusal::BadSid);
@@ -328,8 +329,8 @@ impl<'a> Present<'a> {
         ensures { result ≡ first_of (
             refused_if (nat_le self.now.config.receivers receiver) Refusal.BadReceiver ∷
             refused_if (is_great_amount self.now.config amount) Refusal.BadBytes ∷
-            refused_if (nat_lt heard (progress_of self.now.config receiver self.now.history))
-            (Refusal.Acked (progress_of self.now.config receiver self.now.history)) ∷
+            refused_if (nat_lt heard (slice_index (situation_of self.now.config self.now.history).progress receiver))
+            (Refusal.Acked (slice_index (situation_of self.now.config self.now.history).progress receiver)) ∷
             refused_if (nat_le (next_after self.now.config self.now.history) heard)
             (Refusal.Ahead (next_after self.now.config self.now.history)) ∷ []) }
     {
@@ -342,16 +343,24 @@ impl<'a> Present<'a> {
         }
     }
 
+    // The minislot before which a receiver has handed in every request that it heard.
+    fn progress_of(&self, receiver: u8) -> u64
+        requires { receiver < self.now.config.receivers }
+        ensures { result ≡ slice_index (situation_of self.now.config self.now.history).progress receiver }
+    {
+        self.state.progress[usize::from(receiver)]
+    }
+
     // The refusal of a request for the minislot at which it was heard.
     fn refuse_time(&self, receiver: u8, heard: u64) -> Option<Refusal>
         requires { receiver < self.now.config.receivers }
         ensures { result ≡ first_of (
-            refused_if (nat_lt heard (progress_of self.now.config receiver self.now.history))
-            (Refusal.Acked (progress_of self.now.config receiver self.now.history)) ∷
+            refused_if (nat_lt heard (slice_index (situation_of self.now.config self.now.history).progress receiver))
+            (Refusal.Acked (slice_index (situation_of self.now.config self.now.history).progress receiver)) ∷
             refused_if (nat_le (next_after self.now.config self.now.history) heard)
             (Refusal.Ahead (next_after self.now.config self.now.history)) ∷ []) }
     {
-        let progress = self.state.progress[usize::from(receiver)];
+        let progress = self.progress_of(receiver);
         if heard < progress {
             Some(Refusal::Acked(progress))
         } else if heard >= self.state.next {
@@ -366,8 +375,8 @@ impl<'a> Present<'a> {
         ensures { result ≡ first_of (
             refused_if (nat_le self.now.config.receivers receiver) Refusal.BadReceiver ∷
             refused_if (is_bad_amount self.now.config amount) Refusal.BadBytes ∷
-            refused_if (nat_lt heard (progress_of self.now.config receiver self.now.history))
-            (Refusal.Acked (progress_of self.now.config receiver self.now.history)) ∷
+            refused_if (nat_lt heard (slice_index (situation_of self.now.config self.now.history).progress receiver))
+            (Refusal.Acked (slice_index (situation_of self.now.config self.now.history).progress receiver)) ∷
             refused_if (nat_le (next_after self.now.config self.now.history) heard)
             (Refusal.Ahead (next_after self.now.config self.now.history)) ∷ []) }
     {
@@ -387,7 +396,7 @@ impl<'a> Present<'a> {
         if receiver >= self.state.config.receivers() {
             return Some(Refusal::BadReceiver);
         }
-        let progress = self.state.progress[usize::from(receiver)];
+        let progress = self.progress_of(receiver);
         if upto > self.state.next {
             Some(Refusal::Ahead(self.state.next))
         } else if upto < progress {

@@ -13,7 +13,7 @@ returns-then-settles c =
     let h = c.self.inside.ledger in
     let sound = c.self.invariant in
     let after : settles_after s.config h ≡ true =
-    sym (settles_next-after s h sound.is_after sound.legal) ∙ sym c.if-settles.ensures in
+    sym (settles_next-after s h sound.is_after) ∙ sym c.if-settles.ensures in
     subst (λ (m : Machine). 0 ≡ lapses_with (settles_after m.config m.history) c.args.planned.now.met
     (reserves_of m.config m.history)) c.self.view_is (rw after refl)
 
@@ -23,7 +23,7 @@ returns c =
     let h = c.self.inside.ledger in
     let sound = c.self.invariant in
     let after : settles_after s.config h ≡ false =
-    sym (settles_next-after s h sound.is_after sound.legal) ∙ sym c.if-settles.ensures in
+    sym (settles_next-after s h sound.is_after) ∙ sym c.if-settles.ensures in
     subst (λ (m : Machine). c.lapses.result ≡ lapses_with (settles_after m.config m.history) c.args.planned.now.met
     (reserves_of m.config m.history)) c.self.view_is
     (rw after (c.lapses.ensures ∙ ap (λ (p : PlannedBuild). lapses_of p.met s.reserves) c.planned.view_is

@@ -8,7 +8,7 @@ use Rattle.sched_history.proofs.scheduler.present.Present.other_grants.Goals as 
 all : (c : goal.After-from) → other_grants c.args.self.now.config c.args.sid c.args.self.now.history
     + grants_of c.args.old ≡ periodic_grants c.args.self.now.config c.args.self.now.history
 all c =
-    other-grants c.args.self.now.config c.args.self.now.history c.args.sid c.args.old c.requires.good c.requires.present
+    other-grants c.args.self.now.config c.args.self.now.history c.args.sid c.args.old c.requires.present
 
 pub overflow_sub-result : goal.overflow_sub-result
 overflow_sub-result c = omega (arith, all c, c.periodic_grants.ensures.value, c.from.ensures, c.grants.ensures)

@@ -1,8 +1,8 @@
-use Rattle.std.proofs.Common.{◌∙◌}
-use Rattle.sched_history.proofs.state.Present.{spec_of-after}
+use Rattle.std.proofs.Common.{◌∙◌, ap, option_map}
+use Rattle.sched_history.proofs.state.Present.{flow_of-kept}
 use Rattle.sched_history.proofs.scheduler.present.Present.spec_of.Goals as goal
 
 pub returns : goal.returns
 returns c = rw (← c.self.view_is)
-    (c.flow.ensures ∙ spec_of-after c.self.inside.state.now c.self.inside.ledger.now c.args.sid
-    c.self.invariant.is_after c.requires)
+    (c.flow.ensures ∙ ap (option_map (λ f. f.spec)) (flow_of-kept c.self.inside.state.now c.self.inside.ledger.now
+    c.args.sid c.self.invariant.is_after))

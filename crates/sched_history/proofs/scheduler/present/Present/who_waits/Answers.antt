@@ -6,7 +6,6 @@ use Rattle.flow_book.specs.declared.standing.Standing.{Standing}
 use Rattle.sched_calls.specs.declared.reply.Entry.{Entry}
 use Rattle.sched_history.specs.declared.scheduler.state.State.{State}
 use Rattle.sched_history.specs.Facts.{waits_by, waits_next}
-use Rattle.sched_history.specs.History.{IsLegal}
 use Rattle.sched_history.specs.Machine.{Past}
 use Rattle.sched_history.specs.Settling.{settles_after}
 use Rattle.sched_history.specs.State.{settles_next, IsStateAfter}
@@ -16,11 +15,11 @@ use Rattle.sched_history.proofs.scheduler.present.Present.who_waits.Goals as goa
 pub who_waits-requires : goal.who_waits-requires
 who_waits-requires c = c.self.invariant.bounded.started
 
-waits-after : (standing : Standing) (s : State) (h : List Entry) → IsStateAfter s h → IsLegal s.config h
+waits-after : (standing : Standing) (s : State) (h : List Entry) → IsStateAfter s h
     → (if settles_next s then [] else map (λ f. f.sid) (filter (waits_so standing s.book.config s.next) s.book.flows))
     ≡ (if settles_after s.config h then [] else waits_next standing s.config h)
-waits-after standing s h is_after legal =
-    rw (settles_next-after s h is_after legal, is_after.book_config, is_after.next, is_after.flows) refl
+waits-after standing s h is_after =
+    rw (settles_next-after s h is_after, is_after.book_config, is_after.next, is_after.flows) refl
 
 pub returns-in-Built-clause-waits : goal.returns-in-Built-clause-waits
 returns-in-Built-clause-waits c =
@@ -30,5 +29,5 @@ returns-in-Built-clause-waits c =
     IfOk-weaker c.who_waits.result _ _
     (λ sids is step.
     subst (λ (p : Past). sids.items ≡ waits_by c.args.standing p.config p.history c.args.entry.now.reply) c.self.view_is
-    (rw (c.in-Built.is) (rw (sym (waits-after c.args.standing s h kept.is_after kept.legal)) is)))
+    (rw (c.in-Built.is) (rw (sym (waits-after c.args.standing s h kept.is_after)) is)))
     c.who_waits.ensures

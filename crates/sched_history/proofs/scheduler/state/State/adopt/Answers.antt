@@ -6,7 +6,9 @@ use Rattle.sched_history.specs.declared.scheduler.state.State.{State}
 use Rattle.sched_calls.specs.declared.reply.Reply.TheVariants as replies
 use Rattle.sched_history.specs.Life.{table_of}
 use Rattle.sched_history.specs.Time.{next_after}
-use Rattle.sched_history.proofs.lives.Finding.{good_sid, life_of-dead}
+use Rattle.sched_history.specs.Situation.{situation_of}
+use Rattle.sched_history.proofs.lives.Finding.{good_sid}
+use Rattle.sched_history.proofs.lives.Left.{life_of-dead}
 use Rattle.sched_history.proofs.placements.Counts.{grants-placed_by}
 use Rattle.sched_history.proofs.placements.Tables.{find-with_placed, table-undone}
 use Rattle.sched_history.proofs.steps.Passed.{passed-admit}
@@ -19,14 +21,14 @@ pub adopt-requires-clause-is_new : goal.adopt-requires-clause-is_new
 adopt-requires-clause-is_new c =
     let s = c.args.self.now in
     let opens = c.requires.open.1 in
-    let admits = passed-admit s.config c.requires.open.0 c.args.sid c.args.spec opens.unrefused in
+    let admits = passed-admit s.config (situation_of s.config c.requires.open.0) c.args.sid c.args.spec opens.unrefused in
     find-fresh s c.requires.open.0 c.args.sid opens.is_after admits.good admits.fresh
 
 pub adopt-requires-clause-room : goal.adopt-requires-clause-room
 adopt-requires-clause-room c =
     let s = c.args.self.now in
     let opens = c.requires.open.1 in
-    let admits = passed-admit s.config c.requires.open.0 c.args.sid c.args.spec opens.unrefused in
+    let admits = passed-admit s.config (situation_of s.config c.requires.open.0) c.args.sid c.args.spec opens.unrefused in
     omega (
       arith,
       grants-placed_by s c.requires.open.0 opens.is_after opens.legal,
@@ -38,7 +40,7 @@ pub admit-requires : goal.admit-requires
 admit-requires c =
     let s = c.args.self.now in
     let opens = c.requires.open.1 in
-    let admits = passed-admit s.config c.requires.open.0 c.args.sid c.args.spec opens.unrefused in
+    let admits = passed-admit s.config (situation_of s.config c.requires.open.0) c.args.sid c.args.spec opens.unrefused in
     flow_of-fresh s c.requires.open.0 c.args.sid opens.is_after admits.good admits.fresh
 
 pub remove-requires : goal.remove-requires
@@ -52,7 +54,7 @@ returns-in-Err-clause-err c =
     let old : State = c.args.self.now in
     let p : Placed = record { sid = c.args.sid; spec = c.args.spec; placement = c.args.placement.now; rests = false } in
     let opens = c.requires.open.1 in
-    let admits = passed-admit old.config c.requires.open.0 c.args.sid c.args.spec opens.unrefused in
+    let admits = passed-admit old.config (situation_of old.config c.requires.open.0) c.args.sid c.args.spec opens.unrefused in
     let put : TableView = c.adopt.new.self in
     rw (c.remove.ensures, c.in-Err.ensures.err)
     (ap (λ (t : TableView). record old { table = t })
@@ -80,17 +82,17 @@ returns-in-Ok-clause-follows c = λ is h opens.
     let spec = c.args.spec in
     let p = c.args.placement.now in
     let taken = c.in_ok-adopt.ensures in
-    let admits = passed-admit s.config h sid spec opens.unrefused in
+    let admits = passed-admit s.config (situation_of s.config h) sid spec opens.unrefused in
     let good = good_sid sid admits.good in
     let lawful : IsPlacement s.config (table_of h) spec (next_after s.config h) p =
     placement-after s h spec p opens.is_after (taken.lawful c.if-not-branch.false) in
     record {
       config = refl;
-      answers = answers-periodic s.config h spec (replies.Admitted (Some p)) c.requires.periodic
+      answers = answers-periodic s.config (situation_of s.config h) spec (replies.Admitted (Some p)) c.requires.periodic
           (inl (p, lawful, refl));
       encodable = tt;
       is_after = λ stamp. IsStateAfter-placed s h opens.is_after stamp sid spec p
           (record s { book = c.admit.new.self; table = c.adopt.new.self }) refl
-          (life_of-dead sid h admits.fresh) good.0 good.1 c.in-Ok.ensures.config c.in-Ok.ensures.ok
+          (life_of-dead s.config h sid admits.good admits.fresh) good.0 good.1 c.in-Ok.ensures.config c.in-Ok.ensures.ok
           taken.config (taken.placed c.if-not-branch.false);
     }

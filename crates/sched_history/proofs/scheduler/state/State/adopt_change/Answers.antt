@@ -1,6 +1,7 @@
 -- A flow is placed anew where it was placed elsewhere.
 use Rattle.std.proofs.Common.{false, Some, refl, inl, inr, Result, Ok, Err, OnErr}
 use Rattle.sched_calls.specs.declared.reply.Reply.TheVariants as replies
+use Rattle.sched_history.specs.Situation.{situation_of}
 use Rattle.sched_history.proofs.lives.Finding.{good_sid}
 use Rattle.sched_history.proofs.state.ChangeMoves.{IsStateAfter-changed}
 use Rattle.sched_history.proofs.state.Changing.{may, life, had, had-place, change-live, change-kind}
@@ -51,7 +52,7 @@ returns-then-not-branch-clause-differs c = λ is h opens answers.
     let other = had-place s h sid spec opens false c.requires.other in
     c.in_ok-adopt_anew.ensures.unlawful c.if-not-branch.true
     (beside-table s h sid spec opens c.requires.periodic p
-    (placed-answer s.config h sid (had s h sid spec opens) spec p other c.requires.periodic
+    (placed-answer s.config (situation_of s.config h) sid (had s h sid spec opens) spec p other c.requires.periodic
     (given-answers s h sid spec opens (replies.Changed (Some p)) answers)))
 
 pub returns-clause-follows : goal.returns-clause-follows

@@ -24,6 +24,6 @@ returns-clause-answered c = λ now h opens fits.
           c.follow-2.new.self
           (c.take_in.ensures.config ∙ opens.is_after.book_config) (c.take_in.ensures.flows ∙ fits.flows stamp)
           (c.follow.ensures ∙ ap (λ b. if b then s.reserves else aged (unmarked p.met s.reserves)) c.settles-settles.ensures
-          ∙ reserves-behind s h opens.is_after opens.legal p.met ∙ fits.reserves stamp)
+          ∙ reserves-behind s h opens.is_after p.met ∙ fits.reserves stamp)
           (next_start s.config h p.map fits.lawful ∙ sym opens.is_after.next) c.follow-2.ensures;
     })

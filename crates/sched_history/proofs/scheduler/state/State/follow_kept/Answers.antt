@@ -1,6 +1,7 @@
 -- A flow keeps the placement that is handed in.
 use Rattle.std.proofs.Common.{true, Some, refl, ap, inl}
 use Rattle.sched_calls.specs.declared.reply.Reply.TheVariants as replies
+use Rattle.sched_history.specs.Situation.{situation_of}
 use Rattle.sched_history.proofs.lives.Finding.{good_sid}
 use Rattle.sched_history.proofs.state.ChangeMoves.{IsStateAfter-changed}
 use Rattle.sched_history.proofs.state.Changing.{may, life, had, had-place, place-periodic, change-live, change-kind}
@@ -72,7 +73,7 @@ returns-then-not-is_told-clause-differs c = λ is h opens answers.
     let known = life s h sid spec opens in
     let good = good_sid sid (may s h sid spec opens).known.good in
     let told = told-kept s h sid spec opens periodic c.args.placement.now
-    (kept-answer s.config h sid (had s h sid spec opens) spec c.args.placement.now same periodic
+    (kept-answer s.config (situation_of s.config h) sid (had s h sid spec opens) spec c.args.placement.now same periodic
     (given-answers s h sid spec opens (replies.Changed (Some c.args.placement.now)) answers)) in
     let stands = change-at s h sid spec opens periodic in
     let apart = rw stands at (c.if-not-is_told.ensures.other refl) in

@@ -1,12 +1,13 @@
 -- A change is answered with a placement, or there is no place.
 use Rattle.std.proofs.Common.{refl, inl, inr}
+use Rattle.sched_history.specs.Situation.{situation_of}
 use Rattle.sched_history.proofs.state.Changing.{had, periodic-answer, given-answers}
 use Rattle.sched_history.proofs.scheduler.state.State.follow_refused.Goals as goal
 
 pub returns-then-not-is_refused-clause-differs : goal.returns-then-not-is_refused-clause-differs
 returns-then-not-is_refused-clause-differs c = λ is h opens answers.
     let s = c.args.self.now in
-    elim (periodic-answer s.config h c.args.sid (had s h c.args.sid c.args.spec opens) c.args.spec c.args.reply.now
+    elim (periodic-answer s.config (situation_of s.config h) c.args.sid (had s h c.args.sid c.args.spec opens) c.args.spec c.args.reply.now
     c.requires.periodic (given-answers s h c.args.sid c.args.spec opens c.args.reply.now answers)) [
       | inl placed ↦ c.requires.unplaced placed.0 placed.1
       | inr refused ↦ c.if-not-is_refused.ensures.other refl refused

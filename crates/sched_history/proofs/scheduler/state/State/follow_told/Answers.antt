@@ -3,6 +3,7 @@ use Rattle.std.proofs.Common.{◌≡◌, [], ◌∷◌, ◌++◌, refl, ◌∙�
 use Rattle.sched_history.specs.History.{Answers}
 use Rattle.sched_calls.specs.Reply.{IsEncodable}
 use Rattle.sched_history.specs.State.{IsStateAfter}
+use Rattle.sched_history.specs.Situation.{situation_of}
 use Rattle.sched_history.proofs.state.Following.{told-one, told-same, told-apart}
 use Rattle.sched_history.proofs.scheduler.state.State.follow_told.Goals as goal
 
@@ -13,8 +14,8 @@ returns-clause-follows c = λ is h opens.
     let answered = c.in_ok-make_told.ensures.answered h opens in
     let told = c.told.ensures h opens in
     let same : c.in_ok-make_told.field-0 ≡ c.args.reply.now =
-    told-one s.config h call c.in_ok-make_told.field-0 c.told.result c.requires.told answered.answers told
-    ∙ told-same s.config h call c.requires.told c.told.result c.args.reply.now told
+    told-one s.config (situation_of s.config h) call c.in_ok-make_told.field-0 c.told.result c.requires.told answered.answers told
+    ∙ told-same s.config (situation_of s.config h) call c.requires.told c.told.result c.args.reply.now told
     (c.if-not-is_same_flat.ensures.same refl) in
     record {
       config = answered.config;
@@ -27,5 +28,5 @@ returns-clause-follows c = λ is h opens.
 
 pub returns-then-not-is_same_flat-clause-differs : goal.returns-then-not-is_same_flat-clause-differs
 returns-then-not-is_same_flat-clause-differs c = λ is h opens answers.
-    told-apart c.args.self.now.config h c.args.call c.requires.told c.told.result c.args.reply.now
+    told-apart c.args.self.now.config (situation_of c.args.self.now.config h) c.args.call c.requires.told c.told.result c.args.reply.now
     (c.told.ensures h opens) (c.if-not-is_same_flat.ensures.apart refl) answers

@@ -1,5 +1,6 @@
 -- A flow is removed.
 use Rattle.std.proofs.Common.{refl, ap}
+use Rattle.sched_history.specs.Situation.{situation_of}
 use Rattle.sched_history.proofs.steps.Passed.{passed-remove}
 use Rattle.sched_history.proofs.state.Present.{IsLive-after, IsPlaced-after, unplaced-after}
 use Rattle.sched_history.proofs.state.Moves.{IsStateAfter-removed}
@@ -10,21 +11,21 @@ remove-requires-clause-live c =
     let s = c.args.self.now in
     let opens = c.requires.1 in
     IsLive-after s c.requires.0 c.args.sid opens.is_after
-    (passed-remove s.config c.requires.0 c.args.sid opens.unrefused)
+    (passed-remove s.config (situation_of s.config c.requires.0) c.args.sid opens.unrefused)
 
 pub remove-requires-clause-placed : goal.remove-requires-clause-placed
 remove-requires-clause-placed c =
     let s = c.args.self.now in
     let opens = c.requires.1 in
     IsPlaced-after s c.requires.0 c.args.sid opens.is_after
-    (passed-remove s.config c.requires.0 c.args.sid opens.unrefused) opens.legal
+    (passed-remove s.config (situation_of s.config c.requires.0) c.args.sid opens.unrefused) opens.legal
 
 pub remove-requires-clause-unplaced : goal.remove-requires-clause-unplaced
 remove-requires-clause-unplaced c =
     let s = c.args.self.now in
     let opens = c.requires.1 in
     unplaced-after s c.requires.0 c.args.sid opens.is_after
-    (passed-remove s.config c.requires.0 c.args.sid opens.unrefused) opens.legal
+    (passed-remove s.config (situation_of s.config c.requires.0) c.args.sid opens.unrefused) opens.legal
 
 pub returns : goal.returns
 returns c = λ h opens.

@@ -3,6 +3,7 @@ use Rattle.std.proofs.Common.{false, refl, ap, ◌∙◌, inr, arith}
 use Rattle.periodic.specs.Placement.{Placed}
 use Rattle.periodic.specs.Table.{TableView}
 use Rattle.sched_history.specs.declared.scheduler.state.State.{State}
+use Rattle.sched_history.specs.Situation.{situation_of}
 use Rattle.sched_calls.specs.declared.call.Call.TheVariants as calls
 use Rattle.sched_calls.specs.declared.reply.Refusal.TheVariants.{NoPlace}
 use Rattle.sched_calls.specs.declared.reply.Reply.TheVariants as replies
@@ -20,14 +21,14 @@ pub place-requires-clause-is_new : goal.place-requires-clause-is_new
 place-requires-clause-is_new c =
     let s = c.args.self.now in
     let opens = c.requires.open.1 in
-    let admits = passed-admit s.config c.requires.open.0 c.args.sid c.args.spec opens.unrefused in
+    let admits = passed-admit s.config (situation_of s.config c.requires.open.0) c.args.sid c.args.spec opens.unrefused in
     find-fresh s c.requires.open.0 c.args.sid opens.is_after admits.good admits.fresh
 
 pub place-requires-clause-room : goal.place-requires-clause-room
 place-requires-clause-room c =
     let s = c.args.self.now in
     let opens = c.requires.open.1 in
-    let admits = passed-admit s.config c.requires.open.0 c.args.sid c.args.spec opens.unrefused in
+    let admits = passed-admit s.config (situation_of s.config c.requires.open.0) c.args.sid c.args.spec opens.unrefused in
     omega (
       arith,
       grants-placed_by s c.requires.open.0 opens.is_after opens.legal,
@@ -44,7 +45,7 @@ pub returns-clause-same : goal.returns-clause-same
 returns-clause-same c =
     let old : State = c.args.self.now in
     let opens = c.requires.open.1 in
-    let admits = passed-admit old.config c.requires.open.0 c.args.sid c.args.spec opens.unrefused in
+    let admits = passed-admit old.config (situation_of old.config c.requires.open.0) c.args.sid c.args.spec opens.unrefused in
     let fresh = find-fresh old c.requires.open.0 c.args.sid opens.is_after admits.good admits.fresh in
     let put : TableView = c.place.new.self in
     elim c.match-place.branch [
@@ -62,7 +63,7 @@ returns-in-Err-NoPlace-clause-follows c = λ is h opens.
     let none = (rw c.in-Err-NoPlace.field-0-is at c.in-Err-NoPlace.ensures).no_place.0 refl in
     rw (c.in-Err-NoPlace.ensures.err) (record {
       config = refl;
-      answers = answers-periodic s.config h c.args.spec (replies.Refused NoPlace) c.requires.periodic
+      answers = answers-periodic s.config (situation_of s.config h) c.args.spec (replies.Refused NoPlace) c.requires.periodic
           (inr (no_placement-after s h c.args.spec opens.is_after none, refl));
       encodable = tt;
       is_after = λ stamp. IsStateAfter-quiet s h opens.is_after stamp (calls.Admit c.args.sid c.args.spec)

@@ -1,6 +1,7 @@
 -- A progress is noted.
 use Rattle.std.proofs.Common.{◌<◌, length, refl, arith}
 use Rattle.minislots.proofs.Bounds.{bounds_of}
+use Rattle.sched_history.specs.Situation.{situation_of}
 use Rattle.sched_history.proofs.steps.Passed.{passed-heard}
 use Rattle.sched_history.proofs.state.Moves.{IsStateAfter-heard}
 use Rattle.sched_history.proofs.scheduler.state.State.hear.Goals as goal
@@ -11,7 +12,7 @@ returns c = λ h opens.
     let within : c.args.receiver < length s.progress =
     omega (
       arith,
-      (passed-heard s.config h c.args.receiver c.args.upto opens.unrefused).received,
+      (passed-heard s.config (situation_of s.config h) c.args.receiver c.args.upto opens.unrefused).received,
       opens.is_after.places,
       (bounds_of s.config opens.is_after.lawful).receivers_most,
     ) in

@@ -3,6 +3,7 @@ use Rattle.std.proofs.Common.{◌≡◌, true, false, refl, sym, ◌∙◌, inl,
 use Rattle.sched_calls.specs.declared.call.Call.TheVariants as calls
 use Rattle.sched_calls.specs.declared.reply.Reply.TheVariants as replies
 use Rattle.sched_calls.specs.declared.reply.Refusal.TheVariants.{NoPlace}
+use Rattle.sched_history.specs.Situation.{situation_of}
 use Rattle.sched_history.proofs.flows.Refused.{IsQuiet-refused}
 use Rattle.sched_history.proofs.state.Moves.{IsStateAfter-quiet}
 use Rattle.sched_history.proofs.state.Changing.{had, had-place, change-fault, change-aligned, change-next}
@@ -32,7 +33,7 @@ returns-then-keeps_place-clause-differs c = λ is h opens answers.
     let sid = c.args.sid in
     let spec = c.args.spec in
     let keeps = had-place s h sid spec opens c.keeps_place.result c.keeps_place.ensures ∙ c.if-keeps_place.true in
-    let refused = refused-answer s.config h sid (had s h sid spec opens) spec
+    let refused = refused-answer s.config (situation_of s.config h) sid (had s h sid spec opens) spec
     (given-answers s h sid spec opens (replies.Refused NoPlace) answers) in
     let apart : true ≡ false = sym keeps ∙ refused.0 in
     cc
@@ -58,7 +59,7 @@ returns-clause-differs c = λ is h opens answers.
     let s = c.args.self.now in
     let sid = c.args.sid in
     let spec = c.args.spec in
-    let refused = refused-answer s.config h sid (had s h sid spec opens) spec
+    let refused = refused-answer s.config (situation_of s.config h) sid (had s h sid spec opens) spec
     (given-answers s h sid spec opens (replies.Refused NoPlace) answers) in
     let place = c.has_no_place.ensures.some is in
     refused.1 place.0 (beside s h sid spec opens c.requires.periodic place.0 place.1)

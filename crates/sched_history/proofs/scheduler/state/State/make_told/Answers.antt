@@ -1,6 +1,7 @@
 -- A request is counted, and each other call has its own answer.
 use Rattle.std.proofs.Common.{◌≡◌, ℕ, Bool, true, false, not, refl, ap, ◌∙◌, arith}
 use Rattle.flow_book.specs.Book.{changed, with_asked}
+use Rattle.sched_history.specs.Situation.{situation_of}
 use Rattle.sched_history.proofs.steps.Passed.{passed-ask}
 use Rattle.sched_history.proofs.state.Present.{IsLive-after, asked-fits, takes-after}
 use Rattle.sched_history.proofs.rows.Limits.{most_history}
@@ -23,14 +24,14 @@ ask-requires-clause-live c =
     let h = c.requires.open.0 in
     let opens = rw c.in-Ask.is at c.requires.open.1 in
     IsLive-after s h c.in-Ask.sid opens.is_after
-    (passed-ask s.config h c.in-Ask.receiver c.in-Ask.sid c.in-Ask.amount c.in-Ask.heard opens.unrefused).known
+    (passed-ask s.config (situation_of s.config h) c.in-Ask.receiver c.in-Ask.sid c.in-Ask.amount c.in-Ask.heard opens.unrefused).known
 
 pub ask-requires-clause-fits : goal.ask-requires-clause-fits
 ask-requires-clause-fits c =
     let s = c.args.self.now in
     let h = c.requires.open.0 in
     let opens = rw c.in-Ask.is at c.requires.open.1 in
-    let asks = passed-ask s.config h c.in-Ask.receiver c.in-Ask.sid c.in-Ask.amount c.in-Ask.heard opens.unrefused in
+    let asks = passed-ask s.config (situation_of s.config h) c.in-Ask.receiver c.in-Ask.sid c.in-Ask.amount c.in-Ask.heard opens.unrefused in
     asked-fits s h c.in-Ask.sid c.bytes-bytes.result (omega (arith, asks.most, c.bytes-bytes.ensures))
     (omega (arith, opens.short, most_history)) opens.bounded.asked
 
@@ -39,7 +40,7 @@ ask-requires-clause-asks c =
     let s = c.args.self.now in
     let h = c.requires.open.0 in
     let opens = rw c.in-Ask.is at c.requires.open.1 in
-    let asks = passed-ask s.config h c.in-Ask.receiver c.in-Ask.sid c.in-Ask.amount c.in-Ask.heard opens.unrefused in
+    let asks = passed-ask s.config (situation_of s.config h) c.in-Ask.receiver c.in-Ask.sid c.in-Ask.amount c.in-Ask.heard opens.unrefused in
     takes-after s h c.in-Ask.sid opens.is_after asks.known asks.asks
 
 pub returns-in-Ask-clause-answered : goal.returns-in-Ask-clause-answered

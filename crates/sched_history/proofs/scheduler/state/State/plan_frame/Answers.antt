@@ -35,7 +35,7 @@ returns-clause-fits c = λ now h opens.
     let p = c.in_ok-frame.frame in
     let frame = c.in_ok-frame.ensures.lawful in
     record {
-      lawful = IsNextMap-after s h opens.is_after opens.legal p.map (frame.plan, frame.is_plan, frame.map);
+      lawful = IsNextMap-after s h opens.is_after p.map (frame.plan, frame.is_plan, frame.map);
       encodable = c.in_ok-frame.ensures.encodable;
       config = c.in_ok-frame.ensures.config;
       before = frame.before ∙ opens.is_after.flows;
@@ -45,4 +45,4 @@ returns-clause-fits c = λ now h opens.
 
 pub returns-clause-only : goal.returns-clause-only
 returns-clause-only c = λ now h opens n next.
-    c.in_ok-frame.ensures.only n (IsLawfulMap-after c.args.self.now h opens.is_after opens.legal n next)
+    c.in_ok-frame.ensures.only n (IsLawfulMap-after c.args.self.now h opens.is_after n next)

@@ -1,6 +1,7 @@
 -- Each call that is told has one answer.
 use Rattle.std.proofs.Common.{◌≡◌, Bool, true, false, not, None, refl, inr}
 use Rattle.sched_calls.specs.declared.reply.Reply.TheVariants as replies
+use Rattle.sched_history.specs.Situation.{situation_of}
 use Rattle.sched_history.proofs.state.Present.{answers-best_effort}
 use Rattle.sched_history.proofs.state.Changing.{answers-given}
 use Rattle.sched_history.proofs.scheduler.state.State.told.Goals as goal
@@ -11,7 +12,7 @@ negated false is = refl
 
 pub returns-in-Admit : goal.returns-in-Admit
 returns-in-Admit c = λ h opens. rw c.in-Admit.is (
-    answers-best_effort c.args.self.now.config h c.in-Admit.field-1
+    answers-best_effort c.args.self.now.config (situation_of c.args.self.now.config h) c.in-Admit.field-1
     (negated _ (rw c.in-Admit.is at c.requires.told)))
 
 pub returns-in-Skip : goal.returns-in-Skip

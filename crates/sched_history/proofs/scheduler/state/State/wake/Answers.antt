@@ -1,5 +1,6 @@
 -- The flow wakes in the table.
 use Rattle.std.proofs.Common.{refl}
+use Rattle.sched_history.specs.Situation.{situation_of}
 use Rattle.sched_history.proofs.steps.Passed.{passed-wake}
 use Rattle.sched_history.proofs.state.Voices.{voice-placed}
 use Rattle.sched_history.proofs.state.Moves.{IsStateAfter-woken}
@@ -9,7 +10,7 @@ pub wake-requires : goal.wake-requires
 wake-requires c =
     let s = c.args.self.now in
     let opens = c.requires.1 in
-    let may = passed-wake s.config c.requires.0 c.args.sid opens.unrefused in
+    let may = passed-wake s.config (situation_of s.config c.requires.0) c.args.sid opens.unrefused in
     voice-placed s c.requires.0 c.args.sid opens.is_after may.known.good opens.legal may.voice
 
 pub returns : goal.returns

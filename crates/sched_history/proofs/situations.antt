@@ -1,0 +1,5 @@
+-- What a history leaves: with one call more, and as all that later steps depend on.
+pub mod Times
+pub mod FlowsLeft
+pub mod Leaving
+pub mod GoingOn
