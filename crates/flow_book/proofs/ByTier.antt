@@ -14,7 +14,7 @@ use Rattle.flow_book.specs.declared.limits.Limits.{Limits}
 use Rattle.flow_book.specs.declared.waiting.Waiting.{Waiting}
 use Rattle.flow_book.specs.declared.tiers.Tier.{Tier}
 use Rattle.flow_book.specs.Bucket.{BucketView, StandsFor, IsSettled, HasOneMore, StaysSettled}
-use Rattle.flow_book.specs.Entry.{live, is_plain, KeepsSums}
+use Rattle.flow_book.specs.Entry.{is_plain, KeepsSums}
 use Rattle.flow_book.specs.Queue.{IsAt}
 use Rattle.flow_book.specs.Tiers.{unlimited, limits_by, peak_in, reserved_in, rank_in, limits_in, tier_of, HasTier, IsSpent}
 use Rattle.flow_book.proofs.Buckets.{no-ceiling, same-fields}

@@ -44,7 +44,7 @@ impl GrantList {
             × (result.sustained ≡ _before.now.sustained ++ charge_of _grant.now ∷ [])
             × (result.peak ≡ _before.now.peak ++ charge_of _grant.now ∷ [])
             × (result.reserved ≡ (if _is_reserved.now then _before.now.reserved ++ charge_of _grant.now ∷ []
-                else _before.now.reserved))
+            else _before.now.reserved))
             × (result.room ≡ _before.now.room - 1) }
     {
         GrantList {}

@@ -1,5 +1,5 @@
 -- A place more is gone through.
-use Rattle.std.proofs.Common.{◌≡◌, refl, sym, ◌∙◌, ap, subst, ◌-◌, take, arith}
+use Rattle.std.proofs.Common.{◌≡◌, refl, sym, ◌∙◌, subst, ◌-◌, take, arith}
 use Rattle.std.proofs.lemmas.List.{take_all, length-set}
 use Rattle.flow_book.specs.declared.flow.Flow.{Flow}
 use Rattle.flow_book.specs.Entry.{IsCopy}

@@ -1,5 +1,5 @@
 -- All that wait are in the two parts, and the line is that of the flows before the MAP.
-use Rattle.std.proofs.Common.{◌∙◌, sym, subst}
+use Rattle.std.proofs.Common.{sym, subst}
 use Rattle.std.proofs.lemmas.Result.{IfOk-weaker}
 use Rattle.flow_book.specs.Numbers.{IsLineOf}
 use Rattle.flow_book.specs.Queue.{all_of}

@@ -1,5 +1,5 @@
 -- The front is left as it was.
-use Rattle.std.proofs.Common.{◌≡◌, ◌∙◌, sym, ap, drop, insert}
+use Rattle.std.proofs.Common.{◌∙◌, ap, drop, insert}
 use Rattle.flow_book.proofs.Fronts.{drop-insert}
 use Rattle.flow_book.proofs.queue_list.Queue.insert.Goals as goal
 

@@ -1,5 +1,5 @@
 -- The front is left as it was.
-use Rattle.std.proofs.Common.{◌≡◌, ◌∙◌, ap, drop, remove}
+use Rattle.std.proofs.Common.{◌∙◌, ap, drop, remove}
 use Rattle.flow_book.proofs.Fronts.{drop-remove}
 use Rattle.flow_book.proofs.queue_list.Queue.remove.Goals as goal
 
