@@ -85,9 +85,9 @@ fn put_best_effort(
     out.end_object()
 }
 
-// Writes the parameters of a flow, by its kind.
+/// Writes the parameters of a flow, by its kind.
 #[tactic(auto, unfolding(crate::specs::Json::flow_data))]
-fn put_flow(out: &mut Writer, flow: FlowSpec) -> Result<(), AllocError>
+pub fn put_flow(out: &mut Writer, flow: FlowSpec) -> Result<(), AllocError>
     ensures ok { OnOk result (out.new.tokens ≡ out.old.tokens ++ tokens_of (flow_data flow)) }
     ensures before { out.new.before ≡ out.old.before }
 {

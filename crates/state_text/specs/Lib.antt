@@ -1,0 +1,2 @@
+pub use Rattle.history_writing.specs.Json
+pub mod StateText
