@@ -1,7 +1,10 @@
 -- The text of a state: its JSON value in compact form, members in ascending order of their keys. A member is always
 -- there: where there is nothing to tell it is null.
-use Rattle.std.specs.Prelude.{ℕ, Bool, List, map, codes, Option, None, Some, if◌then◌else◌}
+use Rattle.std.specs.Prelude.{◌≡◌, ℕ, Bool, List, map, codes, Option, None, Some, if◌then◌else◌, IsSomeAnd, IsUtf8}
+use Rattle.json.specs.Json.{document}
+use Rattle.json.specs.Strict.{HasUniqueKeys}
 use Rattle.serde_json.specs.Data.{Data, null, string, array, object, no_members, member}
+use Rattle.serde_json.specs.Read.{read}
 use Rattle.serde_json.specs.View.{items_of}
 use Rattle.serde_json.specs.Written.{compact_text}
 use Rattle.sched_calls.specs.declared.opportunity.Header.{Header}
@@ -107,3 +110,10 @@ state_data s = object (
 -- the text of a state: without a space
 unfoldable pub state_text : ChannelState → List ℕ
 state_text s = compact_text (state_data s)
+
+-- a text of a state: its value is the state's, whatever the order of its keys and the spaces between them, and no object
+-- in it has a key twice
+pub record IsStateText (text : List ℕ) (s : ChannelState) : Type 0 where
+  pub utf8 : IsUtf8 text
+  pub value_is : read text ≡ Some (state_data s)
+  pub once : IsSomeAnd (document text) HasUniqueKeys

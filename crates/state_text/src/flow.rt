@@ -1,7 +1,9 @@
 //! A live flow of a state.
 
-ghost use Rattle.std.specs.Prelude.{◌≡◌, ◌++◌, OnOk};
+ghost use Rattle.std.specs.Prelude.{◌≡◌, ◌++◌, OnOk, Some};
+ghost use Rattle.std.specs.List.{AllByRecursion};
 ghost use Rattle.history_writing.specs.Tokens.{tokens_of};
+ghost use Rattle.state_text.specs.Fits.{BatchesFit, PlacedFits, FlowStateFits};
 ghost use Rattle.state_text.specs.StateText.{batch_data, batches_data, place_data, placed_data};
 ghost use Rattle.state_text.specs.StateText.{flow_state_data, flow_states_data};
 
@@ -16,6 +18,7 @@ use std::alloc::AllocError;
 fn put_batch(out: &mut Writer, batch: &BatchState) -> Result<(), AllocError>
     ensures ok { OnOk result (out.new.tokens ≡ out.old.tokens ++ tokens_of (batch_data batch.now)) }
     ensures before { out.new.before ≡ out.old.before }
+    ensures fits { OnOk result (BatchesFit (Some batch.now)) }
 {
     out.begin_object()?;
     put_count(out, "end", batch.end)?;
@@ -28,6 +31,7 @@ fn put_batch(out: &mut Writer, batch: &BatchState) -> Result<(), AllocError>
 fn put_batches(out: &mut Writer, batches: &Option<BatchState>) -> Result<(), AllocError>
     ensures ok { OnOk result (out.new.tokens ≡ out.old.tokens ++ tokens_of (batches_data batches.now)) }
     ensures before { out.new.before ≡ out.old.before }
+    ensures fits { OnOk result (BatchesFit batches.now) }
 {
     match batches {
         Some(batch) => put_batch(out, batch),
@@ -40,6 +44,7 @@ fn put_batches(out: &mut Writer, batches: &Option<BatchState>) -> Result<(), All
 fn put_place(out: &mut Writer, place: &PlaceState) -> Result<(), AllocError>
     ensures ok { OnOk result (out.new.tokens ≡ out.old.tokens ++ tokens_of (place_data place.now)) }
     ensures before { out.new.before ≡ out.old.before }
+    ensures fits { OnOk result (PlacedFits (Some place.now)) }
 {
     out.begin_object()?;
     put_count(out, "offset", place.offset)?;
@@ -53,6 +58,7 @@ fn put_place(out: &mut Writer, place: &PlaceState) -> Result<(), AllocError>
 fn put_placed(out: &mut Writer, place: &Option<PlaceState>) -> Result<(), AllocError>
     ensures ok { OnOk result (out.new.tokens ≡ out.old.tokens ++ tokens_of (placed_data place.now)) }
     ensures before { out.new.before ≡ out.old.before }
+    ensures fits { OnOk result (PlacedFits place.now) }
 {
     match place {
         Some(place) => put_place(out, place),
@@ -65,6 +71,7 @@ fn put_placed(out: &mut Writer, place: &Option<PlaceState>) -> Result<(), AllocE
 fn put_flow_state(out: &mut Writer, flow: &FlowState) -> Result<(), AllocError>
     ensures ok { OnOk result (out.new.tokens ≡ out.old.tokens ++ tokens_of (flow_state_data flow.now)) }
     ensures before { out.new.before ≡ out.old.before }
+    ensures fits { OnOk result (FlowStateFits flow.now) }
 {
     out.begin_object()?;
     put_count(out, "asked", flow.asked)?;
@@ -88,6 +95,7 @@ fn put_flow_state(out: &mut Writer, flow: &FlowState) -> Result<(), AllocError>
 pub(crate) fn put_flow_states(out: &mut Writer, flows: &[FlowState]) -> Result<(), AllocError>
     ensures ok { OnOk result (out.new.tokens ≡ out.old.tokens ++ tokens_of (flow_states_data flows.now)) }
     ensures before { out.new.before ≡ out.old.before }
+    ensures fits { OnOk result (AllByRecursion FlowStateFits flows.now) }
 {
     out.begin_array()?;
     for flow in flows {

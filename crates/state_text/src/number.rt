@@ -1,9 +1,11 @@
 //! Whole numbers that may be none, and lists of minislots, as members of JSON objects.
 
-ghost use Rattle.std.specs.Prelude.{◌≡◌, ◌++◌, ◌∷◌, OnOk};
+ghost use Rattle.std.specs.Prelude.{◌≡◌, ◌<◌, ◌^◌, ◌++◌, ◌∷◌, OnOk};
+ghost use Rattle.std.specs.List.{AllByRecursion};
 ghost use Rattle.json.specs.Token.{key};
 ghost use Rattle.history_writing.specs.Json.{count, counts};
 ghost use Rattle.history_writing.specs.Tokens.{tokens_of};
+ghost use Rattle.state_text.specs.Fits.{MaybeFits};
 ghost use Rattle.state_text.specs.StateText.{flag, maybe_data};
 
 use json::Writer;
@@ -25,6 +27,7 @@ pub(crate) fn put_maybe(
     ensures ok { OnOk result
         (out.new.tokens ≡ out.old.tokens ++ key title.now ∷ tokens_of (maybe_data number)) }
     ensures before { out.new.before ≡ out.old.before }
+    ensures fits { MaybeFits number }
 {
     out.key(title)?;
     match number {
@@ -38,6 +41,7 @@ pub(crate) fn put_slots(out: &mut Writer, title: &str, slots: &[u64]) -> Result<
     ensures ok { OnOk result
         (out.new.tokens ≡ out.old.tokens ++ key title.now ∷ tokens_of (counts slots.now)) }
     ensures before { out.new.before ≡ out.old.before }
+    ensures fits { AllByRecursion (λ slot. slot < 2 ^ 64) slots.now }
 {
     out.key(title)?;
     out.begin_array()?;

@@ -1,7 +1,9 @@
 //! A Reserve that waits.
 
 ghost use Rattle.std.specs.Prelude.{◌≡◌, ◌++◌, OnOk};
+ghost use Rattle.std.specs.List.{AllByRecursion};
 ghost use Rattle.history_writing.specs.Tokens.{tokens_of};
+ghost use Rattle.state_text.specs.Fits.{UsageFits, ReserveFits};
 ghost use Rattle.state_text.specs.StateText.{usage_name, usage_sid, reserve_state_data, reserve_states_data};
 
 use crate::number::put_maybe;
@@ -26,7 +28,8 @@ fn usage_name(usage: Usage) -> &'static str
 
 // Its SID, where it has one.
 fn usage_sid(usage: Usage) -> Option<u64>
-    ensures { result ≡ usage_sid usage }
+    ensures value { result ≡ usage_sid usage }
+    ensures fits { UsageFits usage }
 {
     match usage {
         Usage::Initial | Usage::Quiet => None,
@@ -42,6 +45,7 @@ fn put_reserve_state(out: &mut Writer, reserve: &ReserveState) -> Result<(), All
     ensures ok { OnOk result
         (out.new.tokens ≡ out.old.tokens ++ tokens_of (reserve_state_data reserve.now)) }
     ensures before { out.new.before ≡ out.old.before }
+    ensures fits { OnOk result (ReserveFits reserve.now) }
 {
     let usage = reserve.opportunity.usage;
     out.begin_object()?;
@@ -61,6 +65,7 @@ pub(crate) fn put_reserve_states(
     ensures ok { OnOk result
         (out.new.tokens ≡ out.old.tokens ++ tokens_of (reserve_states_data reserves.now)) }
     ensures before { out.new.before ≡ out.old.before }
+    ensures fits { OnOk result (AllByRecursion ReserveFits reserves.now) }
 {
     out.begin_array()?;
     for reserve in reserves {

@@ -2,7 +2,8 @@
 
 ghost use Rattle.std.specs.Prelude.{◌≡◌, ◌++◌, IfOk, OnOk};
 ghost use Rattle.history_writing.specs.Tokens.{tokens_of};
-ghost use Rattle.state_text.specs.StateText.{header_data, state_data, state_text};
+ghost use Rattle.state_text.specs.Fits.{HeaderFits, StateFits};
+ghost use Rattle.state_text.specs.StateText.{header_data, state_data, state_text, IsStateText};
 
 use crate::flow::put_flow_states;
 use crate::number::{put_maybe, put_slots};
@@ -17,6 +18,7 @@ use std::alloc::{AllocError, Global};
 fn put_header(out: &mut Writer, header: Header) -> Result<(), AllocError>
     ensures ok { OnOk result (out.new.tokens ≡ out.old.tokens ++ tokens_of (header_data header)) }
     ensures before { out.new.before ≡ out.old.before }
+    ensures fits { HeaderFits header }
 {
     out.begin_object()?;
     put_count(out, "data_end", header.data_end as u64)?;
@@ -32,6 +34,7 @@ fn put_header(out: &mut Writer, header: Header) -> Result<(), AllocError>
 fn put_state(out: &mut Writer, state: &ChannelState) -> Result<(), AllocError>
     ensures ok { OnOk result (out.new.tokens ≡ out.old.tokens ++ tokens_of (state_data state.now)) }
     ensures before { out.new.before ≡ out.old.before }
+    ensures fits { OnOk result (StateFits state.now) }
 {
     out.begin_object()?;
     put_count(out, "ack", state.ack)?;
@@ -52,7 +55,9 @@ fn put_state(out: &mut Writer, state: &ChannelState) -> Result<(), AllocError>
 /// The text of a state: JSON without spaces, keys in ascending order, all numbers whole.
 #[tactic(auto, unfolding(crate::specs::StateText::state_text))]
 pub fn state_text(alloc: Global, state: &ChannelState) -> Result<Vec<u8>, AllocError>
-    ensures { IfOk result (λ text. text.items ≡ state_text state.now) }
+    ensures ok { IfOk result (λ text. text.items ≡ state_text state.now) }
+    ensures read { IfOk result (λ text. IsStateText text.items state.now) }
+    ensures fits { OnOk result (StateFits state.now) }
 {
     let mut out = Writer::new(Vec::new(alloc));
     put_state(&mut out, state)?;

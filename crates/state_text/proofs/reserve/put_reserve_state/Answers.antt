@@ -14,7 +14,7 @@ returns-clause-ok c =
     let at_put_count_2 = c.put_count-2.new.out.tokens in
     let at_put_name = c.put_name.new.out.tokens in
     let last = c.end_object.new.self.tokens in
-    rw (sym c.usage_sid.ensures, sym c.usage_name.ensures)
+    rw (sym c.usage_sid.ensures.value, sym c.usage_name.ensures)
     (where_ok c.end_object.result (λ ended.
     then_more c.args.out.now.tokens at_begin_object last _ _ c.in_ok-begin_object.ensures.ok
     (then_more at_begin_object at_put_count last _ _ c.in_ok-put_count.ensures.ok
