@@ -16,8 +16,9 @@ mod count;
 mod reply;
 
 use call::put_call;
+pub use call::put_flow;
 pub(crate) use config::put_config;
-use count::put_count;
+pub use count::{put_count, put_name, put_offsets};
 use json::Writer;
 use minislots::{Config, Stamp};
 use reply::put_reply;

@@ -4,5 +4,5 @@
 mod history;
 mod journal;
 
-pub use history::put_history;
+pub use history::{put_count, put_flow, put_history, put_name, put_offsets};
 pub use journal::{add_entry, opening_text, put_journal};

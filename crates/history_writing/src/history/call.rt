@@ -4,7 +4,7 @@ ghost use Rattle.std.specs.Prelude.{◌≡◌, ◌++◌, OnOk, codes};
 ghost use Rattle.serde_json.specs.Data.{string, object, no_members, member};
 ghost use Rattle.sched_calls.specs.declared.amount.Amount.TheVariants.{Bytes, Slots};
 ghost use Rattle.sched_calls.specs.declared.spec.FlowSpec.TheVariants.{Unsolicited, Polled, BestEffort};
-ghost use Rattle.history_writing.specs.Fits.{CallFits};
+ghost use Rattle.history_writing.specs.Fits.{FlowFits, CallFits};
 ghost use Rattle.history_writing.specs.Json.{count, flow_data, request_data, parameters_data, reserve_for, reserve_to};
 ghost use Rattle.history_writing.specs.Json.{call_data};
 ghost use Rattle.history_writing.specs.Tokens.{tokens_of};
@@ -85,11 +85,12 @@ fn put_best_effort(
     out.end_object()
 }
 
-// Writes the parameters of a flow, by its kind.
+/// Writes the parameters of a flow, by its kind.
 #[tactic(auto, unfolding(crate::specs::Json::flow_data))]
-fn put_flow(out: &mut Writer, flow: FlowSpec) -> Result<(), AllocError>
+pub fn put_flow(out: &mut Writer, flow: FlowSpec) -> Result<(), AllocError>
     ensures ok { OnOk result (out.new.tokens ≡ out.old.tokens ++ tokens_of (flow_data flow)) }
     ensures before { out.new.before ≡ out.old.before }
+    ensures fits { FlowFits flow }
 {
     match flow {
         FlowSpec::Unsolicited {

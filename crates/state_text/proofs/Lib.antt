@@ -1,0 +1,9 @@
+mod Each
+pub mod Ordered
+pub mod Readable
+pub mod Parts
+pub mod FlowText
+mod StateReadable
+mod StateFound
+mod StateRead
+pub mod RowsState
