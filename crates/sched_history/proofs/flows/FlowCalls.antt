@@ -95,12 +95,19 @@ kept_own key sid (Some y) has = let own : key y ≡ sid = has y refl in grind (a
 
 -- a flow that asks for nothing and is granted nothing
 abbrev ungrown : LiveFlow → LiveFlow
-ungrown f = record f { asked = f.asked + 0; grants = f.grants ++ [] }
+ungrown f = record f {
+  asked = f.asked + 0;
+  grants = f.grants ++ [];
+  sustained = f.sustained ++ [];
+  peak = f.peak ++ [];
+}
 
 -- it stays as it is
 pub ungrown-map : (o : Option LiveFlow) → option_map ungrown o ≡ o
 ungrown-map None = refl
-ungrown-map (Some f) = let none : f.asked + 0 ≡ f.asked = omega arith in rw (none, append-nil f.grants) refl
+ungrown-map (Some f) =
+    let none : f.asked + 0 ≡ f.asked = omega arith in
+    rw (none, append-nil f.grants, append-nil f.sustained, append-nil f.peak) refl
 
 module _ (stamp : Stamp) (h : List Entry) (sid : ℕ) where
   -- the history with the removal

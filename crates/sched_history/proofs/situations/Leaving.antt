@@ -27,10 +27,24 @@ alike s t entries flows placed next progress reserves header settling ack =
         (hd hd' : Header) (st st' : Settling) (a a' : ℕ) → e ≡ e' → fs ≡ fs' → ps ≡ ps' → n ≡ n' → ts ≡ ts' → rs ≡ rs'
         → hd ≡ hd' → st ≡ st' → a ≡ a'
         → ◌≡◌ {A = Situation} (record {
-          entries = e; flows = fs; placed = ps; next = n; progress = ts; reserves = rs; header = hd; settling = st;
+          entries = e;
+          flows = fs;
+          placed = ps;
+          next = n;
+          progress = ts;
+          reserves = rs;
+          header = hd;
+          settling = st;
           ack = a;
         }) (record {
-          entries = e'; flows = fs'; placed = ps'; next = n'; progress = ts'; reserves = rs'; header = hd'; settling = st';
+          entries = e';
+          flows = fs';
+          placed = ps';
+          next = n';
+          progress = ts';
+          reserves = rs';
+          header = hd';
+          settling = st';
           ack = a';
         })
     same e e' fs fs' ps ps' n n' ts ts' rs rs' hd hd' st st' a a' entries flows placed next progress reserves header

@@ -294,7 +294,7 @@ module _ (s : State) (h : List Entry) (sid : ℕ) (spec : FlowSpec) (opens : IsO
 
   -- memory is taken where a placement is told
   pub takes-given : TellsPlace s.config (situation_of s.config h) sid had spec → TakesMemory s.config h (calls.Change sid spec)
-  takes-given tells = 
+  takes-given tells =
       subst (λ o. MatchOption o ⊥ (λ g. TellsPlace s.config (situation_of s.config h) sid g spec)) (sym left-given) tells
 
   -- a flow without a place stands nowhere

@@ -5,6 +5,6 @@ use Rattle.sched_history.proofs.steps.Passed.{asker-passed}
 use Rattle.sched_history.proofs.scheduler.present.Present.refuse_replace.Goals as goal
 
 pub returns-in-None : goal.returns-in-None
-returns-in-None c = c.refuse_replacement.ensures ∙ sym 
+returns-in-None c = c.refuse_replacement.ensures ∙ sym
     (asker-passed c.args.sid (situation_of c.args.self.now.config c.args.self.now.history) _
     (sym c.refuse_asker.ensures ∙ c.in-None.is))
