@@ -3,3 +3,6 @@ pub mod Times
 pub mod FlowsLeft
 pub mod Leaving
 pub mod GoingOn
+pub mod Places
+pub mod Quiet
+pub mod Sound

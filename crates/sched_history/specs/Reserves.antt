@@ -1,5 +1,5 @@
 -- The opportunities that were reserved in a history and wait for a MAP.
-use Rattle.std.specs.Prelude.{ℕ, suc, ◌+◌, ◌/◌, Bool, false, not, nat_lt, List, [], ◌∷◌, ◌++◌, map, filter}
+use Rattle.std.specs.Prelude.{ℕ, suc, ◌+◌, ◌-◌, ◌/◌, ◌^◌, ◌<◌, ◌≤◌, Bool, false, not, nat_lt, List, [], ◌∷◌, ◌++◌, map, filter}
 use Rattle.std.specs.Prelude.{take, Option, None, Some, if◌then◌else◌, nat_le, count_by}
 use Rattle.minislots.specs.declared.config.Config.{Config}
 use Rattle.map_codec.specs.declared.element.Element.{Element}
@@ -8,6 +8,7 @@ use Rattle.periodic.specs.Placement.{due_in}
 use Rattle.map_build.specs.declared.TheConstants.{MAX_WAITING}
 use Rattle.sched_calls.specs.declared.opportunity.Opportunity.{Opportunity}
 use Rattle.map_build.specs.declared.met.Met.{Met}
+use Rattle.map_build.specs.Purpose.{sid_for}
 use Rattle.map_build.specs.Reading.{meets_place, met_in}
 use Rattle.sched_calls.specs.declared.call.Call.{Call}
 use Rattle.sched_calls.specs.declared.call.Call.TheVariants as calls
@@ -40,6 +41,13 @@ older r = record r { maps = r.maps + 1 }
 -- Reserves that one such MAP more has not met, without those that have lapsed
 abbrev pub aged : List Reserve → List Reserve
 aged rs = filter (λ r. nat_lt r.maps last_map) (map older rs)
+
+-- A Reserve that may wait: it was accepted, and has not lapsed
+pub record IsReserve (c : Config) (r : Reserve) : Type 0 where
+  pub some_slots : 0 < r.opportunity.slots
+  pub within : r.opportunity.slots ≤ c.frame - c.req_slots
+  pub sid : sid_for r.opportunity.usage < 2 ^ 14
+  pub young : r.maps < last_map
 
 -- the Reserves with one that a call asks for
 abbrev pub reserves_with : Option Opportunity → List Reserve → List Reserve

@@ -1,36 +1,35 @@
--- What a scheduler keeps of its history, and what is true of each scheduler.
-use Rattle.std.specs.Prelude.{◌≡◌, ℕ, ◌+◌, ◌-◌, ◌*◌, ◌/◌, ◌%◌, ◌<◌, ◌≤◌, Bool, true, false}
-use Rattle.std.specs.Prelude.{not, ◌&&◌, ◌||◌, nat_lt, ◌==◌, Option, None, Some, List, [], ◌∷◌}
-use Rattle.std.specs.Prelude.{◌++◌, length, slice_index, vec_capacity}
+-- What a scheduler keeps, and what is true of each scheduler.
+use Rattle.std.specs.Prelude.{◌≡◌, ℕ, ◌+◌, ◌-◌, ◌*◌, ◌/◌, ◌%◌, ◌<◌, ◌≤◌, Bool, true}
+use Rattle.std.specs.Prelude.{Option, None, Some, List, [], ◌∷◌}
+use Rattle.std.specs.Prelude.{◌++◌, length, take, vec_capacity}
 use Rattle.std.specs.List.{AllByRecursion}
 use Rattle.minislots.specs.declared.config.Config.{Config}
 use Rattle.minislots.specs.declared.stamp.Stamp.{Stamp}
 use Rattle.minislots.specs.Config.{IsLawful}
 use Rattle.map_codec.specs.WireMap.{IsWellFormed}
-use Rattle.flow_book.specs.declared.batches.Batches.{Batches}
 use Rattle.flow_book.specs.Flows.{LiveFlow}
 use Rattle.flow_book.specs.Choice.{HasStartedBy}
 use Rattle.periodic.specs.Placement.{due_in}
 use Rattle.map_build.specs.declared.frame.PlannedFrame.{PlannedFrame}
 use Rattle.map_build.specs.Plan.{Demand, demand_at}
+use Rattle.map_build.specs.Spots.{AreOfChannel, ArePeriodicOf}
 use Rattle.sched_history.specs.declared.scheduler.state.State.{State}
 use Rattle.sched_history.specs.declared.scheduler.Scheduler.TheInside.{Inside}
+use Rattle.sched_calls.specs.declared.call.TheConstants.{MAX_RESERVES}
 use Rattle.sched_calls.specs.declared.call.Call.{Call}
 use Rattle.sched_calls.specs.declared.call.Call.TheVariants.{Build}
 use Rattle.sched_calls.specs.declared.reply.TheConstants.{MAX_WHOLE_HISTORY}
 use Rattle.sched_calls.specs.declared.reply.Reply.{Reply}
 use Rattle.sched_calls.specs.declared.reply.Reply.TheVariants.{Built}
 use Rattle.sched_calls.specs.declared.reply.Entry.{Entry}
-use Rattle.sched_history.specs.Life.{turn_by, added_by, replaced_by, grants_by, batches_by, change_by, rest_by}
-use Rattle.sched_history.specs.Life.{flows_of, table_of}
-use Rattle.sched_history.specs.Time.{skip_by, is_built, progress_by, next_after, progress_of}
-use Rattle.sched_history.specs.Reserves.{reserve_by, header_by, header_after, reserves_of, waiting_in, left_behind}
-use Rattle.sched_history.specs.Settling.{settling_after, settles_by, settles_after, last_ack}
-use Rattle.sched_history.specs.Refusal.{most_bytes, most_ahead, last_clock, refusal_of}
-use Rattle.sched_history.specs.History.{Answers, IsStep, IsLegal, IsNextMap}
+use Rattle.sched_history.specs.Settling.{settles_by}
+use Rattle.sched_history.specs.Reserves.{IsReserve, waiting_in, left_behind, reserves_past}
+use Rattle.sched_history.specs.Situation.{Situation, situation_of, settles_in, spots_next, flows_by, after}
+use Rattle.sched_history.specs.Refusal.{most_bytes, most_ahead, last_clock, refusal_in}
+use Rattle.sched_history.specs.History.{AnswersIn, IsStep, IsLegal, IsNextMapIn}
 use Rattle.sched_history.specs.Planned.{PlannedBuild}
 use Rattle.sched_history.specs.Facts.{IsWithinAsked}
-use Rattle.sched_history.specs.Machine.{Machine, kept_of, TakesMemory}
+use Rattle.sched_history.specs.Machine.{Machine, kept_of, TakesMemoryIn}
 use Rattle.sched_calls.specs.Reply.{IsEncodable}
 
 -- the MAP of the next frame settles, by the fields
@@ -51,21 +50,20 @@ pub record IsBounded (c : Config) (flows : List LiveFlow) (next calls : ℕ) : T
   pub within : AllByRecursion IsWithinAsked flows
   pub few : length flows ≤ c.flows
 
--- The fields are what the definitions read in a history
-pub record IsStateAfter (s : State) (h : List Entry) : Type 0 where
+-- The fields are what is left
+pub record IsStateAfter (s : State) (x : Situation) : Type 0 where
   pub lawful : IsLawful s.config
   pub book_config : s.book.config ≡ s.config
   pub table_config : s.table.config ≡ s.config
-  pub flows : s.book.flows ≡ flows_of s.config h
-  pub placed : s.table.placed ≡ table_of h
-  pub next : s.next ≡ next_after s.config h
+  pub flows : s.book.flows ≡ x.flows
+  pub placed : s.table.placed ≡ x.placed
+  pub next : s.next ≡ x.next
   pub places : length s.progress ≡ 16
-  pub progress : (receiver : ℕ) → receiver < s.config.receivers
-      → slice_index s.progress receiver ≡ progress_of s.config receiver h
-  pub reserves : s.reserves ≡ reserves_of s.config h
-  pub header : s.header ≡ header_after s.config h
-  pub settling : s.settling ≡ settling_after s.config h
-  pub last_ack : s.last_ack ≡ last_ack s.config h
+  pub progress : take s.config.receivers s.progress ≡ x.progress
+  pub reserves : s.reserves ≡ x.reserves
+  pub header : s.header ≡ x.header
+  pub settling : s.settling ≡ x.settling
+  pub last_ack : s.last_ack ≡ x.ack
 
 -- what contracts see of a scheduler: what it does not keep of the ledger's entries was handed over
 abbrev pub machine_of : Inside → Machine
@@ -78,7 +76,7 @@ machine_of a = record {
 -- The fields are those after the whole history, which is legal and can be encoded; its last entries are kept, in
 -- reserved room
 pub record IsSound (a : Inside) : Type 0 where
-  pub is_after : IsStateAfter a.state a.ledger
+  pub is_after : IsStateAfter a.state (situation_of a.state.config a.ledger)
   pub bounded : IsBounded a.state.config a.state.book.flows a.state.next (length a.ledger)
   pub legal : IsLegal a.state.config a.ledger
   pub encodable : AllByRecursion (λ e. IsEncodable e.reply) a.ledger
@@ -89,17 +87,25 @@ pub record IsSound (a : Inside) : Type 0 where
 
 -- The fields are those after the history, which is legal; they keep to bounds
 pub record IsKeptOf (s : State) (h : List Entry) : Type 0 where
-  pub is_after : IsStateAfter s h
+  pub is_after : IsStateAfter s (situation_of s.config h)
   pub bounded : IsBounded s.config s.book.flows s.next (length h)
   pub legal : IsLegal s.config h
 
--- No test refuses the call after the history that the fields stand for, and one entry more may follow it
-pub record IsOpenTo (s : State) (call : Call) (h : List Entry) : Type 0 where
-  pub is_after : IsStateAfter s h
-  pub bounded : IsBounded s.config s.book.flows s.next (length h)
-  pub legal : IsLegal s.config h
-  pub short : length h < MAX_WHOLE_HISTORY
-  pub unrefused : refusal_of s.config h call ≡ None
+-- What is so of what every legal history leaves: its bounds; the flows are those that a channel may have, and the placed
+-- ones the periodic ones; the Reserves may wait, and are few
+pub record IsSoundIn (c : Config) (x : Situation) : Type 0 where
+  pub bounded : IsBounded c x.flows x.next x.entries
+  pub channel : AreOfChannel x.flows
+  pub periodic : ArePeriodicOf x.flows x.placed
+  pub waiting : AllByRecursion (IsReserve c) x.reserves
+  pub few_waiting : length x.reserves ≤ MAX_RESERVES
+
+-- No test refuses the call after what the fields stand for, and one entry more may follow it
+pub record IsOpenTo (s : State) (call : Call) (x : Situation) : Type 0 where
+  pub is_after : IsStateAfter s x
+  pub sound : IsSoundIn s.config x
+  pub short : x.entries < MAX_WHOLE_HISTORY
+  pub unrefused : refusal_in s.config x call ≡ None
 
 -- the build with this clock, and what is planned for the next frame
 abbrev pub build_of : ℕ → PlannedFrame → PlannedBuild
@@ -112,50 +118,48 @@ build_of now f = record {
   met = f.met;
 }
 
--- The MAP of the build is the lawful one of the next frame after the history, and it is well formed; the flows are
--- those after it
-pub record IsBuildAfter (c : Config) (h : List Entry) (p : PlannedBuild) : Type 0 where
-  pub lawful : IsNextMap c h p.map
+-- The MAP of the build is the lawful one of the next frame, and it is well formed; the flows and the Reserves are those
+-- that it leaves
+pub record IsBuildAfter (c : Config) (x : Situation) (p : PlannedBuild) : Type 0 where
+  pub lawful : IsNextMapIn c x p.map
   pub encodable : IsWellFormed p.map.wire
   pub config : p.config ≡ c
-  pub before : p.before ≡ flows_of c h
-  pub flows : (stamp : Stamp) → p.flows
-      ≡ flows_of c (h ++ record { stamp = stamp; call = Build p.clock; reply = Built p.map } ∷ [])
-  pub reserves : (stamp : Stamp) → left_behind (settles_after c h) p.met (reserves_of c h)
-      ≡ reserves_of c (h ++ record { stamp = stamp; call = Build p.clock; reply = Built p.map } ∷ [])
+  pub before : p.before ≡ x.flows
+  pub flows : p.flows ≡ flows_by c (Build p.clock) (Built p.map) x.flows
+  pub reserves : left_behind (settles_in c x) p.met x.reserves
+      ≡ reserves_past c (settles_in c x) (spots_next c x) p.map.wire.elements x.reserves
 
--- after some history the call is open
+-- after something the call is open
 abbrev pub IsOpen : State → Call → Type 0
-IsOpen s call = (h : List Entry) × IsOpenTo s call h
+IsOpen s call = (x : Situation) × IsOpenTo s call x
 
--- after each history that the fields stand for it takes memory
+-- after all that the fields stand for it takes memory
 abbrev pub TakesMemoryOpen : State → Call → Type 0
-TakesMemoryOpen s call = (h : List Entry) → IsOpenTo s call h → TakesMemory s.config h call
+TakesMemoryOpen s call = (x : Situation) → IsOpenTo s call x → TakesMemoryIn s.config x call
 
--- after each history that the fields stand for the reply is an answer
+-- after all that the fields stand for the reply is an answer
 abbrev pub AnsweredOpen : State → Call → Reply → Type 0
-AnsweredOpen s call reply = (h : List Entry) → IsOpenTo s call h → Answers s.config h call reply
+AnsweredOpen s call reply = (x : Situation) → IsOpenTo s call x → AnswersIn s.config x call reply
 
 -- The fields are those after the entries that were taken, which are legal and can be encoded
 pub record IsAuditorOf (s : State) (taken : List Entry) : Type 0 where
   pub kept : IsKeptOf s taken
   pub encodable : AllByRecursion (λ e. IsEncodable e.reply) taken
 
--- The reply is the answer to the call after the history, its MAP is well formed, and the fields are those with one
--- entry more
-pub record IsFollowed (old new : State) (call : Call) (reply : Reply) (h : List Entry) : Type 0 where
+-- The reply is the answer to the call, its MAP is well formed, and the fields are what it leaves
+pub record IsFollowed (old new : State) (call : Call) (reply : Reply) (x : Situation) : Type 0 where
   pub config : new.config ≡ old.config
-  pub answers : Answers old.config h call reply
+  pub answers : AnswersIn old.config x call reply
   pub encodable : IsEncodable reply
-  pub is_after : (stamp : Stamp) → IsStateAfter new (h ++ record { stamp = stamp; call = call; reply = reply } ∷ [])
+  pub is_after : IsStateAfter new (after old.config x call reply)
 
--- after each history that the fields stand for it is
+-- after all that the fields stand for it is
 abbrev pub FollowsOpen : State → State → Call → Reply → Type 0
-FollowsOpen old new call reply = (h : List Entry) → IsOpenTo old call h → IsFollowed old new call reply h
+FollowsOpen old new call reply = (x : Situation) → IsOpenTo old call x → IsFollowed old new call reply x
 
 -- after none it is the answer
 abbrev pub DiffersOpen : State → Call → Reply → Type 0
-DiffersOpen s call reply = (h : List Entry) → IsOpenTo s call h → Answers s.config h call reply → ⊥
+DiffersOpen s call reply = (x : Situation) → IsOpenTo s call x → AnswersIn s.config x call reply → ⊥
 
 -- A call was answered and recorded
 pub record IsRecorded (old new : Machine) (stamp : Stamp) (call : Call) (reply : Reply) : Type 0 where
@@ -170,17 +174,6 @@ abbrev pub RecordsWithCopy : Machine → Machine → Stamp → Call → Bool →
 RecordsWithCopy old new stamp call twice copy =
     (reply : Reply) × IsRecorded old new stamp call reply × (twice ≡ true → copy ≡ Some reply)
 
--- Neither the flows nor the time, the Reserves or the header of a history depend on an entry
-pub record IsQuiet (c : Config) (call : Call) (reply : Reply) : Type 0 where
-  pub turns : (sid : ℕ) → turn_by sid call reply ≡ None
-  pub adds : (sid : ℕ) → added_by c sid call reply ≡ 0
-  pub replaces : (sid : ℕ) → replaced_by c sid call reply ≡ None
-  pub changes : (sid : ℕ) → change_by sid call reply ≡ None
-  pub rests : (sid : ℕ) → rest_by sid call reply ≡ None
-  pub batches : (sid asked granted : ℕ) (b : Batches) → batches_by c sid call reply b asked granted ≡ b
-  pub grants : (sid : ℕ) → grants_by sid reply ≡ []
-  pub skips : skip_by reply ≡ None
-  pub builds : is_built reply ≡ false
-  pub notes : (receiver : ℕ) → progress_by receiver call reply ≡ None
-  pub reserves : reserve_by call reply ≡ None
-  pub headers : header_by call reply ≡ None
+-- a call with this reply changes nothing but the number of entries
+abbrev pub IsQuiet : Config → Call → Reply → Type 0
+IsQuiet c call reply = (x : Situation) → after c x call reply ≡ record x { entries = x.entries + 1 }

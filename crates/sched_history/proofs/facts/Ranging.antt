@@ -15,12 +15,12 @@ use Rattle.sched_calls.specs.declared.call.Call.{Call}
 use Rattle.sched_calls.specs.declared.reply.Reply.{Reply}
 use Rattle.sched_calls.specs.declared.reply.Reply.TheVariants as replies
 use Rattle.sched_calls.specs.declared.reply.Entry.{Entry}
-use Rattle.sched_history.specs.Reserves.{last_map, waiting_in, reserves_of, met_by, met_after, spots_after}
+use Rattle.sched_history.specs.Reserves.{last_map, IsReserve, waiting_in, reserves_of, met_by, met_after, spots_after}
 use Rattle.sched_history.specs.History.{demand_after, IsNextMap, IsStep, IsLegal}
 use Rattle.sched_history.specs.Ranging.{offers_by, StandsIn, IsMetThere, MeetsWaiting, MeetsFirst, HasWhatItMeets, HasNoOther}
 use Rattle.sched_history.specs.Ranging.{header_in, HasLatestHeader, HoldsForRanging}
 use Rattle.sched_history.proofs.steps.LegalHistories.{IsNextMap-from_step, EachAfter-from_legal}
-use Rattle.sched_history.proofs.reserves.GoodReserves.{IsReserve, reserves_of-good, reserves_of-few, MayWait-legal}
+use Rattle.sched_history.proofs.reserves.GoodReserves.{reserves_of-good, reserves_of-few, MayWait-legal}
 use Rattle.sched_history.proofs.reserves.Losing.{MeetsOnce-any, LosesNone-any, LapsesInTime-young}
 use Rattle.sched_history.proofs.reserves.MetPlaces.{met_by-plan}
 use Rattle.sched_history.proofs.reserves.Standing.{there-plan, no-other-plan}

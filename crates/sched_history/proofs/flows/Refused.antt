@@ -9,10 +9,8 @@ use Rattle.sched_calls.specs.declared.reply.Refusal.{Refusal}
 use Rattle.sched_calls.specs.declared.reply.Reply.TheVariants as replies
 use Rattle.sched_calls.specs.declared.reply.Entry.{Entry}
 use Rattle.sched_history.specs.Life.{turn_by, batches_by, added_by, replaced_by, change_by, rest_by, flows_of}
-use Rattle.sched_history.specs.Time.{progress_by}
-use Rattle.sched_history.specs.Reserves.{reserve_by, header_by}
-use Rattle.sched_history.specs.State.{IsQuiet}
-use Rattle.sched_history.proofs.lives.FlowsAfter.{flows_of-quiet}
+use Rattle.sched_history.specs.Life.{table_of}
+use Rattle.sched_history.proofs.lives.FlowsAfter.{flows_of-quiet, table_of-stays}
 
 turn_by-refused : (call : Call) (refusal : Refusal) (sid : ℕ) → turn_by sid call (replies.Refused refusal) ≡ None
 turn_by-refused (calls.Admit other spec) refusal sid = refl
@@ -45,35 +43,12 @@ batches_by-refused c (calls.Ask receiver other amount heard) refusal sid asked g
 batches_by-refused c (calls.Replace receiver other amount heard) refusal sid asked granted b = refl
 batches_by-refused c call refusal sid asked granted b = refl
 
-progress_by-refused : (call : Call) (refusal : Refusal) (receiver : ℕ)
-    → progress_by receiver call (replies.Refused refusal) ≡ None
-progress_by-refused (calls.Heard other upto) refusal receiver = refl
-progress_by-refused call refusal receiver = refl
-
-reserve_by-refused : (call : Call) (refusal : Refusal) → reserve_by call (replies.Refused refusal) ≡ None
-reserve_by-refused (calls.Reserve usage slots) refusal = refl
-reserve_by-refused call refusal = refl
-
-header_by-refused : (call : Call) (refusal : Refusal) → header_by call (replies.Refused refusal) ≡ None
-header_by-refused (calls.Header header) refusal = refl
-header_by-refused call refusal = refl
-
--- nothing depends on a refusal
-pub IsQuiet-refused : (c : Config) (call : Call) (refusal : Refusal) → IsQuiet c call (replies.Refused refusal)
-IsQuiet-refused c call refusal = record {
-  turns = turn_by-refused call refusal;
-  adds = added_by-refused c call refusal;
-  replaces = replaced_by-refused c call refusal;
-  changes = change_by-refused call refusal;
-  rests = rest_by-refused call refusal;
-  batches = batches_by-refused c call refusal;
-  grants = λ sid. refl;
-  skips = refl;
-  builds = refl;
-  notes = progress_by-refused call refusal;
-  reserves = reserve_by-refused call refusal;
-  headers = header_by-refused call refusal;
-}
+-- no placement depends on a refusal
+pub table_of-refused : (stamp : Stamp) (h : List Entry) (call : Call) (refusal : Refusal)
+    → table_of (h ++ record { stamp = stamp; call = call; reply = replies.Refused refusal } ∷ []) ≡ table_of h
+table_of-refused stamp h call refusal =
+    table_of-stays h (record { stamp = stamp; call = call; reply = replies.Refused refusal })
+    (turn_by-refused call refusal) (change_by-refused call refusal) (rest_by-refused call refusal)
 
 -- the live flows stay as they are
 pub flows_of-refused : (c : Config) (stamp : Stamp) (h : List Entry) (call : Call) (refusal : Refusal)

@@ -13,7 +13,6 @@ use Rattle.flow_book.specs.Flows.{LiveFlow}
 use Rattle.sched_calls.specs.declared.placement.Placement.{Placement}
 use Rattle.periodic.specs.Placement.{Placed}
 use Rattle.periodic.specs.Table.{placed_grants}
-use Rattle.sched_history.specs.declared.scheduler.state.State.{State}
 use Rattle.sched_calls.specs.declared.call.Call.{Call}
 use Rattle.sched_calls.specs.declared.call.Call.TheVariants as calls
 use Rattle.sched_calls.specs.declared.reply.Refusal.{Refusal}
@@ -26,7 +25,6 @@ use Rattle.sched_history.specs.Situation.{Situation, situation_of}
 use Rattle.sched_history.specs.Refusal.{refusal_of, periodic_grants}
 use Rattle.sched_history.specs.History.{AnswersAdmit, PlacesOrRefuses, PlacesAnew, AnswersChange, IsStep}
 use Rattle.sched_history.specs.History.{IsLegal}
-use Rattle.sched_history.specs.State.{IsStateAfter}
 use Rattle.sched_history.proofs.lives.Finding.{flow_at, placed_at}
 use Rattle.sched_history.proofs.placements.Given.{IsGivenSo, lives-given}
 use Rattle.periodic.proofs.Told.{alike-placed}
@@ -160,8 +158,3 @@ summed_all c h (x ∷ xs) paired =
 -- the placed flows have the grants per interval of the live ones
 pub grants-table_of : (c : Config) (h : List Entry) → IsLegal c h → placed_grants (table_of h) ≡ periodic_grants c h
 grants-table_of c h legal = summed_all c h sids (λ sid life. life_of-pairs c h sid life legal)
-
--- so have the flows that a scheduler places
-pub grants-placed_by : (s : State) (h : List Entry) → IsStateAfter s h → IsLegal s.config h
-    → placed_grants s.table.placed ≡ periodic_grants s.config h
-grants-placed_by s h is_after legal = ap placed_grants is_after.placed ∙ grants-table_of s.config h legal

@@ -23,7 +23,7 @@ use Rattle.sched_calls.specs.declared.reply.Entry.{Entry}
 use Rattle.map_build.specs.Reading.{meets_place}
 use Rattle.sched_history.specs.Settling.{settles_after}
 use Rattle.sched_history.specs.Refusal.{bad_sid, is_sid_of_priorities, is_to_bad_sid}
-use Rattle.sched_history.specs.Reserves.{last_map, aged, new_reserve, left_by, met_by}
+use Rattle.sched_history.specs.Reserves.{last_map, IsReserve, aged, new_reserve, left_by, met_by}
 use Rattle.sched_history.specs.Reserves.{reserve_by, reserves_by, reserves_with, reserves_of, waiting_in}
 use Rattle.sched_history.specs.History.{IsStep, IsLegal}
 use Rattle.sched_history.specs.Situation.{situation_of}
@@ -32,13 +32,6 @@ use Rattle.sched_history.proofs.steps.LegalHistories.{accepted, legal_induction}
 use Rattle.sched_history.proofs.steps.Passed.{MayReserve, passed-reserve}
 use Rattle.sched_history.proofs.reserves.ReservesAfter.{reserves_of-push}
 use Rattle.sched_history.proofs.reserves.Places.{all-left_by, length-left_by}
-
--- A Reserve that may wait: it was accepted, and has not lapsed
-pub record IsReserve (c : Config) (r : Reserve) : Type 0 where
-  pub some_slots : 0 < r.opportunity.slots
-  pub within : r.opportunity.slots ≤ c.frame - c.req_slots
-  pub sid : sid_for r.opportunity.usage < 2 ^ 14
-  pub young : r.maps < last_map
 
 is-young : (maps : ℕ) → nat_lt (maps + 1) last_map ≡ true → maps + 1 < last_map
 is-young maps test = grind (arith, nat_tests)
@@ -130,20 +123,27 @@ all-waiting c P zero rs each all = tt
 all-waiting c P (suc n) [] each all = tt
 all-waiting c P (suc n) (r ∷ rs) each all = (each r all.0, all-waiting c P n rs each all.1)
 
--- so the first of them may wait for a MAP
-pub MayWait-legal : (c : Config) (h : List Entry) → IsLegal c h → MayWait (waiting_in (reserves_of c h))
-MayWait-legal c h legal = record {
+-- the first of such Reserves may wait for a MAP
+pub MayWait-good : (c : Config) (rs : List Reserve) → AllByRecursion (IsReserve c) rs → MayWait (waiting_in rs)
+MayWait-good c rs good = record {
   few = omega (
     arith,
-    length-map (take MAX_WAITING (reserves_of c h)) (λ (r : Reserve). r.opportunity),
-    length-take MAX_WAITING (reserves_of c h),
+    length-map (take MAX_WAITING rs) (λ (r : Reserve). r.opportunity),
+    length-take MAX_WAITING rs,
   );
-  some_slots = all-waiting c (λ o. 0 < o.slots) MAX_WAITING (reserves_of c h) (λ r is. is.some_slots)
-      (reserves_of-good c h legal);
+  some_slots = all-waiting c (λ o. 0 < o.slots) MAX_WAITING rs (λ r is. is.some_slots) good;
 }
 
 -- each goes to a SID that an element may have
+pub HaveElementSids-good : (c : Config) (rs : List Reserve) → AllByRecursion (IsReserve c) rs
+    → HaveElementSids (waiting_in rs)
+HaveElementSids-good c rs good =
+    all-waiting c (λ o. sid_for o.usage < 2 ^ 14) MAX_WAITING rs (λ r is. is.sid) good
+
+-- so it is after a legal history
+pub MayWait-legal : (c : Config) (h : List Entry) → IsLegal c h → MayWait (waiting_in (reserves_of c h))
+MayWait-legal c h legal = MayWait-good c (reserves_of c h) (reserves_of-good c h legal)
+
 pub HaveElementSids-legal : (c : Config) (h : List Entry) → IsLegal c h
     → HaveElementSids (waiting_in (reserves_of c h))
-HaveElementSids-legal c h legal = all-waiting c (λ o. sid_for o.usage < 2 ^ 14) MAX_WAITING (reserves_of c h)
-    (λ r is. is.sid) (reserves_of-good c h legal)
+HaveElementSids-legal c h legal = HaveElementSids-good c (reserves_of c h) (reserves_of-good c h legal)

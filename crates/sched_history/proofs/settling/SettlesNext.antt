@@ -13,6 +13,7 @@ use Rattle.sched_history.specs.Time.{next_after}
 use Rattle.sched_history.specs.Reserves.{header_after}
 use Rattle.sched_history.specs.Settling.{map_by, maps_of, changes_in, changes_of, last_of, count_after}
 use Rattle.sched_history.specs.Settling.{is_near, settles_after, settles_by_any}
+use Rattle.sched_history.specs.Situation.{Situation, settles_in}
 use Rattle.sched_history.specs.History.{IsStep, IsLegal}
 use Rattle.sched_history.specs.State.{settles_next, IsStateAfter}
 use Rattle.sched_history.proofs.steps.LegalHistories.{Builds, Skips, Stays, change_by_step, legal_induction}
@@ -90,6 +91,6 @@ settles_by_any-legal c h legal =
     ap (λ near. nat_lt 0 c.settle && (not ((header_after c h).ucd_count == count_after c h) || near))
     (sym (near-legal c.settle (next_after c h) c h legal))
 
--- and by what is kept where it does after the history
-pub settles_next-after : (s : State) (h : List Entry) → IsStateAfter s h → settles_next s ≡ settles_after s.config h
-settles_next-after s h is_after = rw (is_after.settling, is_after.header, is_after.next) refl
+-- and by the fields where it does by what they stand for
+pub settles_next-after : (s : State) (x : Situation) → IsStateAfter s x → settles_next s ≡ settles_in s.config x
+settles_next-after s x is_after = rw (is_after.settling, is_after.header, is_after.next) refl

@@ -38,7 +38,7 @@ use Rattle.sched_history.proofs.flows.Quiet.{quiet-heard, quiet-skip, quiet-stat
 use Rattle.sched_history.proofs.flows.Quiet.{quiet-rest, quiet-wake}
 use Rattle.sched_history.proofs.flows.Admissions.{flows_of-admit, table_of-admit_placed, table_of-admit_unplaced}
 use Rattle.sched_history.proofs.flows.BuildCall.{flows_of-build_next}
-use Rattle.sched_history.proofs.flows.Refused.{flows_of-refused, IsQuiet-refused}
+use Rattle.sched_history.proofs.flows.Refused.{flows_of-refused, table_of-refused}
 use Rattle.sched_history.proofs.steps.Passed.{AdmitsFlow, ChangesFlow, passed-admit, passed-change}
 
 flows_by-refused : (c : Config) (call : Call) (refusal : Refusal) (flows : List LiveFlow)
@@ -70,12 +70,9 @@ module _ (c : Config) (stamp : Stamp) (h : List Entry) where
 
   refused : (call : Call) (refusal : Refusal) → LeavesSo c stamp h call (replies.Refused refusal)
   refused call refusal =
-      let e : Entry = entry call (replies.Refused refusal) in
-      let quiet = IsQuiet-refused c call refusal in
       record {
         flows = flows_of-refused c stamp h call refusal ∙ sym (flows_by-refused c call refusal (flows_of c h));
-        placed = table_of-stays h e quiet.turns quiet.changes quiet.rests
-            ∙ sym (placed_by-refused call refusal (table_of h));
+        placed = table_of-refused stamp h call refusal ∙ sym (placed_by-refused call refusal (table_of h));
       }
 
   module _ (sid : ℕ) (spec : FlowSpec) (may : AdmitsFlow c (situation_of c h) sid spec) where

@@ -1,4 +1,4 @@
--- What the fields of a scheduler say of a flow that is to have other parameters, and the fields with one change more.
+-- What the fields of a scheduler say of a flow that is to have other parameters.
 use Rattle.std.proofs.Common.{◌≡◌, ℕ, ◌+◌, ◌%◌, ◌^◌, ◌<◌, ◌≤◌, Bool, true, false, not, ◌==◌, if◌then◌else◌, List, [], ◌∷◌}
 use Rattle.std.proofs.Common.{◌⊎◌, find, Option, None, Some, refl, sym, ap, ◌∙◌, subst, inl, inr, arith}
 use Rattle.std.specs.Prelude.{is_some, sum_by}
@@ -19,28 +19,20 @@ use Rattle.sched_calls.specs.declared.placement.Placement.{Placement}
 use Rattle.periodic.specs.Placement.{Placed, IsPlacement, NoPlacement, IsToldFrom}
 use Rattle.periodic.specs.Table.{IsPlaced, placed_grants, without}
 use Rattle.periodic.proofs.Summed.{grants-without}
-use Rattle.sched_history.specs.declared.scheduler.state.State.{State}
 use Rattle.sched_calls.specs.declared.call.Call.TheVariants as calls
 use Rattle.sched_calls.specs.declared.reply.Reply.{Reply}
 use Rattle.sched_calls.specs.declared.reply.Reply.TheVariants as replies
 use Rattle.sched_calls.specs.declared.reply.Refusal.TheVariants.{NoPlace}
-use Rattle.sched_calls.specs.declared.reply.Entry.{Entry}
-use Rattle.sched_history.specs.Life.{Admission, Life, life_of, given_in, rests_in, flow_in_life, placed_in_life, flows_of}
-use Rattle.sched_history.specs.Life.{table_of}
-use Rattle.sched_history.specs.Situation.{Situation, situation_of, given_of}
-use Rattle.sched_history.specs.Refusal.{periodic_grants, other_grants}
-use Rattle.sched_history.specs.Time.{next_after}
-use Rattle.sched_history.specs.History.{PlacesAnew, AnswersChange, Answers, IsLegal}
-use Rattle.sched_history.specs.Machine.{TellsPlace, TakesMemory}
-use Rattle.sched_history.specs.State.{IsStateAfter, IsOpenTo}
-use Rattle.sched_history.proofs.lives.Finding.{flows_of-channel, table_of-ascends}
-use Rattle.sched_history.proofs.lives.Left.{flow_of-left, given_of-life}
-use Rattle.sched_history.proofs.lives.FlowsAfter.{placed_with}
-use Rattle.sched_history.proofs.placements.Counts.{life_of-pairs, grants-placed_by}
-use Rattle.sched_history.proofs.placements.Given.{known-life}
-use Rattle.sched_history.proofs.state.Present.{flow_of-kept, find-after, placement-some, IsLive-after}
-use Rattle.sched_history.proofs.state.Present.{without_placed-none}
-use Rattle.sched_history.proofs.steps.Passed.{IsKnown, ChangesFlow, passed-change}
+use Rattle.sched_history.specs.declared.scheduler.state.State.{State}
+use Rattle.sched_history.specs.Life.{Admission}
+use Rattle.sched_history.specs.Situation.{Situation, given_of}
+use Rattle.sched_history.specs.Refusal.{interval_grants}
+use Rattle.sched_history.specs.History.{PlacesAnew, AnswersChange, AnswersIn}
+use Rattle.sched_history.specs.Machine.{TellsPlace, TakesMemoryIn}
+use Rattle.sched_history.specs.State.{IsOpenTo}
+use Rattle.sched_history.proofs.situations.Places.{placed-aperiodic, placed-periodic, placed-grants, placed-ascend}
+use Rattle.sched_history.proofs.state.Present.{flow_of-kept, find-kept, found-from_test, without_placed-none}
+use Rattle.sched_history.proofs.steps.Passed.{ChangesFlow, passed-change}
 
 -- flows of one kind are both periodic, or neither
 pub alike-periodic : (spec other : FlowSpec) → is_kind_of spec other ≡ true → is_periodic other ≡ is_periodic spec
@@ -107,69 +99,18 @@ some-of None old is = absurd cc
 some-of (Some f) old is = (f, refl, cc)
 
 -- the grants of the other flows, and those of the flow with these parameters, are all
-pub other-grants : (c : Config) (h : List Entry) (sid : ℕ) (old : FlowSpec)
-    → option_map (λ f. f.spec) (flow_of sid (flows_of c h)) ≡ Some old
-    → other_grants c sid h + grants_of old ≡ periodic_grants c h
-other-grants c h sid old is =
-    let found = some-of (flow_of sid (flows_of c h)) old is in
-    let all = grants-others sid found.0 (flows_of c h) (flows_of-channel c h).ascend found.1 in
+pub other-grants : (flows : List LiveFlow) (sid : ℕ) (old : FlowSpec) → Ascend flows
+    → option_map (λ f. f.spec) (flow_of sid flows) ≡ Some old
+    → interval_grants (without_flow sid flows) + grants_of old ≡ interval_grants flows
+other-grants flows sid old up is =
+    let found = some-of (flow_of sid flows) old is in
+    let all = grants-others sid found.0 flows up found.1 in
     omega (arith, all, ap grants_of found.2)
-
-module _ (s : State) (h : List Entry) (sid : ℕ) (is_after : IsStateAfter s h) (legal : IsLegal s.config h)
-    (known : IsKnown (situation_of s.config h) sid) where
-  -- its life
-  pub known-in : (life : Life) × (life_of sid h ≡ Some life)
-  known-in = known-life s.config h sid known
-
-  -- what it was given
-  abbrev pub given : Admission
-  given = given_in sid known-in.0
-
-  -- its flow
-  pub left-known : flow_of sid (flows_of s.config h) ≡ Some (flow_in_life s.config sid known-in.0)
-  left-known = flow_of-left s.config h sid known.good ∙ ap (option_map (flow_in_life s.config sid)) known-in.1
-
-  pub flow-known : flow_of sid s.book.flows ≡ Some (flow_in_life s.config sid known-in.0)
-  flow-known = flow_of-kept s h sid is_after ∙ left-known
-
-  -- and its placement
-  pub placed-known : find (λ p. p.sid == sid) s.table.placed
-      ≡ option_map (placed_with sid given.spec (rests_in sid known-in.0.since)) given.placement
-  placed-known = find-after s h sid is_after known.good ∙ ap (option_and_then (placed_in_life sid)) known-in.1
-
-  -- it is placed where it is periodic
-  pub is-placed : is_periodic given.spec ≡ true → IsPlaced sid s.table.placed
-  is-placed periodic =
-      rw placed-known (placement-some sid given.spec (rests_in sid known-in.0.since) given.placement
-      (life_of-pairs s.config h sid known-in.0 legal known-in.1 ∙ periodic))
-
-  -- the grants of the other flows and its own are all
-  pub others-known : other_grants s.config sid h + grants_of given.spec ≡ periodic_grants s.config h
-  others-known =
-      other-grants s.config h sid given.spec (ap (option_map (λ f. f.spec)) left-known)
-
-  -- so have the other placed flows
-  pub placed-others : (f : Placed) → find (λ p. p.sid == sid) s.table.placed ≡ Some f → f.spec ≡ given.spec
-      → placed_grants (without sid s.table.placed) ≡ other_grants s.config sid h
-  placed-others f found same =
-      let up : AscendBy (λ p. p.sid) s.table.placed = rw is_after.placed (table_of-ascends h) in
-      let rest = grants-without sid f s.table.placed found up in
-      omega (arith, rest, others-known, ap grants_of same, grants-placed_by s h is_after legal)
 
 -- what holds of the parameters of the live flow holds of those of the flow that is found
 of-flow : (test : FlowSpec → Bool) (o : Option LiveFlow) (f : LiveFlow) (b : Bool) → o ≡ Some f
     → option_map_or (λ g. test g.spec) o false ≡ b → test f.spec ≡ b
 of-flow test o f b found is = rw found at is
-
--- a placement that stands
-some-placement : (o : Option Placement) → is_some o ≡ true → (p : Placement) × (o ≡ Some p)
-some-placement None is = absurd cc
-some-placement (Some p) is = (p, refl)
-
--- or does not
-no-placement : (o : Option Placement) → is_some o ≡ false → o ≡ None
-no-placement None is = refl
-no-placement (Some p) is = absurd cc
 
 -- a placement is answered once
 same_changed : (p q : Placement) → replies.Changed (Some p) ≡ replies.Changed (Some q) → p ≡ q
@@ -223,38 +164,32 @@ module _ (c : Config) (x : Situation) (sid : ℕ) (given : Admission) (spec : Fl
   periodic-answer reply periodic (inr (inr none)) = absurd (let apart : true ≡ false = sym periodic ∙ none.0 in cc)
 
 -- What is known where a change is open
-module _ (s : State) (h : List Entry) (sid : ℕ) (spec : FlowSpec) (opens : IsOpenTo s (calls.Change sid spec) h) where
-  abbrev pub may : ChangesFlow s.config (situation_of s.config h) sid spec
-  may = passed-change s.config (situation_of s.config h) sid spec opens.unrefused
+module _ (s : State) (x : Situation) (sid : ℕ) (spec : FlowSpec) (opens : IsOpenTo s (calls.Change sid spec) x) where
+  abbrev pub may : ChangesFlow s.config x sid spec
+  may = passed-change s.config x sid spec opens.unrefused
 
-  -- its life
-  abbrev pub life : (life : Life) × (life_of sid h ≡ Some life)
-  life = known-in s h sid opens.is_after opens.legal may.known
+  -- its flow
+  pub live : (f : LiveFlow) × (flow_of sid x.flows ≡ Some f)
+  live = found-from_test (flow_of sid x.flows) may.known.live
 
-  -- what it was given
+  -- what it has
   abbrev pub had : Admission
-  had = given_in sid life.0
+  had = record { spec = live.0.spec; placement = option_map (λ p. p.placement) (find (λ p. p.sid == sid) x.placed) }
 
   kind : is_kind_of spec had.spec ≡ true
-  kind = of-flow (is_kind_of spec) (flow_of sid (flows_of s.config h)) (flow_in_life s.config sid life.0) true
-      (left-known s h sid opens.is_after opens.legal may.known) may.kind
+  kind = of-flow (is_kind_of spec) (flow_of sid x.flows) live.0 true live.1 may.kind
 
   -- it is periodic as before
   pub had-periodic : is_periodic had.spec ≡ is_periodic spec
   had-periodic = alike-periodic spec had.spec kind
 
-  -- its flow
-  pub change-found : flow_of sid s.book.flows ≡ Some (flow_in_life s.config sid life.0)
-  change-found = flow-known s h sid opens.is_after opens.legal may.known
-
-  -- and placement
-  pub change-placed : find (λ p. p.sid == sid) s.table.placed
-      ≡ option_map (placed_with sid had.spec (rests_in sid life.0.since)) had.placement
-  change-placed = placed-known s h sid opens.is_after opens.legal may.known
+  -- its flow is found
+  pub change-found : flow_of sid s.book.flows ≡ Some live.0
+  change-found = flow_of-kept s x sid opens.is_after ∙ live.1
 
   -- it is live
   pub change-live : IsLive sid s.book.flows
-  change-live = IsLive-after s h sid opens.is_after may.known
+  change-live = rw change-found refl
 
   -- and asks as before
   pub change-kind : IfSome (flow_of sid s.book.flows) (λ f. takes_requests spec ≡ takes_requests f.spec)
@@ -266,55 +201,56 @@ module _ (s : State) (h : List Entry) (sid : ℕ) (spec : FlowSpec) (opens : IsO
 
   -- the next frame starts in time
   pub change-aligned : s.next % s.table.config.frame ≡ 0
-  change-aligned = rw opens.is_after.table_config opens.bounded.aligned
+  change-aligned = rw (opens.is_after.table_config, opens.is_after.next) opens.sound.bounded.aligned
 
   pub change-next : s.next ≤ 2 ^ 61
-  change-next = omega (arith, opens.bounded.next_most)
+  change-next = omega (arith, opens.is_after.next, opens.sound.bounded.next_most)
 
   -- whether it keeps its place is told by its flow
   pub had-place : (b : Bool) → IfSome (flow_of sid s.book.flows) (λ f. has_place_of f.spec spec ≡ b)
       → has_place_of had.spec spec ≡ b
   had-place b is = rw change-found at is
 
-  -- what it was given is left
-  left-given : given_of sid (situation_of s.config h) ≡ Some had
-  left-given = given_of-life s.config h sid may.known.good life.0 life.1
+  -- what it has is left
+  left-given : given_of sid x ≡ Some had
+  left-given = rw live.1 refl
 
-  -- an answer of a flow that was given this is the answer
-  pub answers-given : (reply : Reply) → AnswersChange s.config (situation_of s.config h) sid had spec reply
-      → Answers s.config h (calls.Change sid spec) reply
-  answers-given reply answers = subst
-      (λ o. MatchOption o ⊥ (λ g. AnswersChange s.config (situation_of s.config h) sid g spec reply)) (sym left-given) answers
+  -- an answer of a flow that has this is the answer
+  pub answers-given : (reply : Reply) → AnswersChange s.config x sid had spec reply
+      → AnswersIn s.config x (calls.Change sid spec) reply
+  answers-given reply answers =
+      subst (λ o. MatchOption o ⊥ (λ g. AnswersChange s.config x sid g spec reply)) (sym left-given) answers
 
   -- and the other way round
-  pub given-answers : (reply : Reply) → Answers s.config h (calls.Change sid spec) reply
-      → AnswersChange s.config (situation_of s.config h) sid had spec reply
-  given-answers reply answers = subst
-      (λ o. MatchOption o ⊥ (λ g. AnswersChange s.config (situation_of s.config h) sid g spec reply)) left-given answers
+  pub given-answers : (reply : Reply) → AnswersIn s.config x (calls.Change sid spec) reply
+      → AnswersChange s.config x sid had spec reply
+  given-answers reply answers =
+      subst (λ o. MatchOption o ⊥ (λ g. AnswersChange s.config x sid g spec reply)) left-given answers
 
   -- memory is taken where a placement is told
-  pub takes-given : TellsPlace s.config (situation_of s.config h) sid had spec → TakesMemory s.config h (calls.Change sid spec)
-  takes-given tells =
-      subst (λ o. MatchOption o ⊥ (λ g. TellsPlace s.config (situation_of s.config h) sid g spec)) (sym left-given) tells
+  pub takes-given : TellsPlace s.config x sid had spec → TakesMemoryIn s.config x (calls.Change sid spec)
+  takes-given tells = subst (λ o. MatchOption o ⊥ (λ g. TellsPlace s.config x sid g spec)) (sym left-given) tells
 
   -- a flow without a place stands nowhere
   pub change-nowhere : is_periodic spec ≡ false → without sid s.table.placed ≡ s.table.placed
   change-nowhere aperiodic =
-      let none = no-placement had.placement
-      (life_of-pairs s.config h sid life.0 opens.legal life.1 ∙ had-periodic ∙ aperiodic) in
-      without_placed-none sid s.table.placed
-      (change-placed ∙ ap (option_map (placed_with sid had.spec (rests_in sid life.0.since))) none)
+      without_placed-none sid s.table.placed (find-kept s x sid opens.is_after
+      ∙ placed-aperiodic x.flows x.placed opens.sound.channel.ascend opens.sound.periodic sid live.0 live.1
+      (had-periodic ∙ aperiodic))
 
   module _ (periodic : is_periodic spec ≡ true) where
-    -- its placement stands
-    pub had-placement : (p : Placement) × (had.placement ≡ Some p)
-    had-placement = some-placement had.placement
-        (life_of-pairs s.config h sid life.0 opens.legal life.1 ∙ had-periodic ∙ periodic)
+    -- what is placed
+    pub stands : (p : Placed) × (find (λ p. p.sid == sid) x.placed ≡ Some p) × (p.spec ≡ live.0.spec)
+    stands = placed-periodic x.flows x.placed opens.sound.channel.ascend opens.sound.periodic sid live.0 live.1
+        (had-periodic ∙ periodic)
 
     -- it is placed so
-    pub change-at : find (λ p. p.sid == sid) s.table.placed
-        ≡ Some (placed_with sid had.spec (rests_in sid life.0.since) had-placement.0)
-    change-at = change-placed ∙ ap (option_map (placed_with sid had.spec (rests_in sid life.0.since))) had-placement.1
+    pub change-at : find (λ p. p.sid == sid) s.table.placed ≡ Some stands.0
+    change-at = find-kept s x sid opens.is_after ∙ stands.1
+
+    -- its placement stands
+    had-placement : had.placement ≡ Some stands.0.placement
+    had-placement = ap (option_map (λ (p : Placed). p.placement)) stands.1
 
     pub change-is_placed : IsPlaced sid s.table.placed
     change-is_placed = rw change-at refl
@@ -322,52 +258,61 @@ module _ (s : State) (h : List Entry) (sid : ℕ) (spec : FlowSpec) (opens : IsO
     -- there is room for its grants beside the others
     pub change-room : placed_grants (without sid s.table.placed) + grants_of spec ≤ s.table.config.periodic
     change-room =
-        let others = placed-others s h sid opens.is_after opens.legal may.known
-        (placed_with sid had.spec (rests_in sid life.0.since) had-placement.0) change-at refl in
-        omega (arith, others, may.few_grants periodic, ap (λ k. k.periodic) opens.is_after.table_config)
+        let up = opens.sound.channel.ascend in
+        let rest = grants-without sid stands.0 x.placed stands.1 (placed-ascend x.flows x.placed up opens.sound.periodic) in
+        let others = other-grants x.flows sid live.0.spec up (ap (option_map (λ (f : LiveFlow). f.spec)) live.1) in
+        omega (
+          arith,
+          ap (λ ps. placed_grants (without sid ps)) opens.is_after.placed,
+          rest,
+          others,
+          ap grants_of stands.2,
+          placed-grants x.flows x.placed opens.sound.periodic,
+          may.few_grants periodic,
+          ap (λ k. k.periodic) opens.is_after.table_config,
+        )
 
     -- it keeps its place in the table too
     pub change-alike : has_place_of had.spec spec ≡ true
         → IfSome (find (λ p. p.sid == sid) s.table.placed) (λ f. has_place_of f.spec spec ≡ true)
-    change-alike same = rw change-at same
+    change-alike same = rw change-at (subst (λ old. has_place_of old spec ≡ true) (sym stands.2) same)
 
     -- the placement that is told of the table is the one that is kept
     pub kept-told : (p : Placement)
         → IfSome (find (λ f. f.sid == sid) s.table.placed) (λ f. IsToldFrom s.table.config spec s.next f.placement p)
-        → IsSomeAnd had.placement (λ stands. IsToldFrom s.config spec (next_after s.config h) stands p)
+        → IsSomeAnd had.placement (λ stands. IsToldFrom s.config spec x.next stands p)
     kept-told p told =
-        let at : IsToldFrom s.table.config spec s.next had-placement.0 p = rw change-at at told in
-        rw had-placement.1
-        (subst (λ n. IsToldFrom s.config spec n had-placement.0 p) opens.is_after.next
-        (subst (λ k. IsToldFrom k spec s.next had-placement.0 p) opens.is_after.table_config at))
+        let at : IsToldFrom s.table.config spec s.next stands.0.placement p = rw change-at at told in
+        rw had-placement
+        (subst (λ n. IsToldFrom s.config spec n stands.0.placement p) opens.is_after.next
+        (subst (λ k. IsToldFrom k spec s.next stands.0.placement p) opens.is_after.table_config at))
 
     -- and the other way round
-    pub told-kept : (p : Placement)
-        → IsSomeAnd had.placement (λ stands. IsToldFrom s.config spec (next_after s.config h) stands p)
+    pub told-kept : (p : Placement) → IsSomeAnd had.placement (λ stands. IsToldFrom s.config spec x.next stands p)
         → IfSome (find (λ f. f.sid == sid) s.table.placed) (λ f. IsToldFrom s.table.config spec s.next f.placement p)
     told-kept p told =
-        let at : IsToldFrom s.config spec (next_after s.config h) had-placement.0 p = rw had-placement.1 at told in
+        let at : IsToldFrom s.config spec x.next stands.0.placement p = rw had-placement at told in
         rw change-at
-        (subst (λ k. IsToldFrom k spec s.next had-placement.0 p) (sym opens.is_after.table_config)
-        (subst (λ n. IsToldFrom s.config spec n had-placement.0 p) (sym opens.is_after.next) at))
+        (subst (λ k. IsToldFrom k spec s.next stands.0.placement p) (sym opens.is_after.table_config)
+        (subst (λ n. IsToldFrom s.config spec n stands.0.placement p) (sym opens.is_after.next) at))
 
-    -- a placement beside the others in the table is one after the history
+    -- a placement beside the others in the table is one beside those that are left
     pub beside : (p : Placement) → IsPlacement s.table.config (without sid s.table.placed) spec s.next p
-        → IsPlacement s.config (without sid (table_of h)) spec (next_after s.config h) p
+        → IsPlacement s.config (without sid x.placed) spec x.next p
     beside p lawful =
-        subst (λ n. IsPlacement s.config (without sid (table_of h)) spec n p) opens.is_after.next
+        subst (λ n. IsPlacement s.config (without sid x.placed) spec n p) opens.is_after.next
         (subst (λ ps. IsPlacement s.config (without sid ps) spec s.next p) opens.is_after.placed
         (subst (λ k. IsPlacement k (without sid s.table.placed) spec s.next p) opens.is_after.table_config lawful))
 
     -- and the other way round
-    pub beside-table : (p : Placement) → IsPlacement s.config (without sid (table_of h)) spec (next_after s.config h) p
+    pub beside-table : (p : Placement) → IsPlacement s.config (without sid x.placed) spec x.next p
         → IsPlacement s.table.config (without sid s.table.placed) spec s.next p
     beside-table p lawful =
         subst (λ k. IsPlacement k (without sid s.table.placed) spec s.next p) (sym opens.is_after.table_config)
         (subst (λ ps. IsPlacement s.config (without sid ps) spec s.next p) (sym opens.is_after.placed)
-        (subst (λ n. IsPlacement s.config (without sid (table_of h)) spec n p) (sym opens.is_after.next) lawful))
+        (subst (λ n. IsPlacement s.config (without sid x.placed) spec n p) (sym opens.is_after.next) lawful))
 
-    -- no place beside them is no place after the history
+    -- no place beside them in the table is no place
     pub none-beside : NoPlacement s.table.config (without sid s.table.placed) spec s.next
-        → NoPlacement s.config (without sid (table_of h)) spec (next_after s.config h)
+        → NoPlacement s.config (without sid x.placed) spec x.next
     none-beside none = λ p lawful. none p (beside-table p lawful)

@@ -9,14 +9,18 @@ use Rattle.map_build.specs.EachAfter.{EachAfter}
 use Rattle.minislots.specs.declared.config.Config.{Config}
 use Rattle.sched_calls.specs.declared.reply.TheConstants.{MAX_WHOLE_HISTORY}
 use Rattle.sched_history.specs.declared.scheduler.state.State.{State}
+use Rattle.sched_calls.specs.declared.call.Call.{Call}
 use Rattle.sched_calls.specs.declared.reply.Refusal.{Refusal}
 use Rattle.sched_calls.specs.declared.reply.Reply.TheVariants.{Refused}
 use Rattle.sched_calls.specs.declared.reply.Entry.{Entry}
+use Rattle.sched_history.specs.Situation.{situation_of, after}
 use Rattle.sched_history.specs.Refusal.{refusal_of}
 use Rattle.sched_history.specs.History.{Answers, IsStep, IsLegal}
 use Rattle.sched_history.specs.Audit.{IsFirstIllegal}
 use Rattle.sched_history.specs.State.{IsStateAfter, IsKeptOf, IsOpenTo, IsFollowed}
-use Rattle.sched_history.proofs.flows.Refused.{IsQuiet-refused}
+use Rattle.sched_history.proofs.situations.Quiet.{IsQuiet-refused}
+use Rattle.sched_history.proofs.situations.Leaving.{situation_of-push}
+use Rattle.sched_history.proofs.situations.Sound.{IsSoundIn-legal}
 use Rattle.sched_history.proofs.steps.Steps.{IsLegal-push, IsStep-answered}
 use Rattle.sched_history.proofs.steps.Bounded.{IsBounded-legal}
 use Rattle.sched_history.proofs.state.Moves.{IsStateAfter-quiet}
@@ -40,9 +44,13 @@ IsFirstIllegal-not c h i legal first =
 
 -- what is kept after a step is that of the history with this entry more
 IsKeptOf-push : (s t : State) (h : List Entry) (e : Entry) → IsKeptOf s h → t.config ≡ s.config
-    → IsStep s.config h e.call e.reply → IsStateAfter t (h ++ e ∷ []) → IsKeptOf t (h ++ e ∷ [])
-IsKeptOf-push s t h e kept config step is_after =
+    → IsStep s.config h e.call e.reply → IsStateAfter t (after s.config (situation_of s.config h) e.call e.reply)
+    → IsKeptOf t (h ++ e ∷ [])
+IsKeptOf-push s t h e kept config step left =
     let legal : IsLegal t.config (h ++ e ∷ []) = rw config (IsLegal-push s.config h e kept.legal step) in
+    let is_after : IsStateAfter t (situation_of t.config (h ++ e ∷ [])) =
+    subst (λ k. IsStateAfter t (situation_of k (h ++ e ∷ []))) (sym config)
+    (subst (IsStateAfter t) (sym (situation_of-push s.config h e step)) left) in
     record {
       is_after = is_after;
       bounded = rw (is_after.flows, is_after.next) (IsBounded-legal t.config (h ++ e ∷ []) is_after.lawful legal);
@@ -50,11 +58,21 @@ IsKeptOf-push s t h e kept config step is_after =
     }
 
 -- before any call
-pub IsKeptOf-open : (s : State) → IsStateAfter s [] → IsKeptOf s []
+pub IsKeptOf-open : (s : State) → IsStateAfter s (situation_of s.config []) → IsKeptOf s []
 IsKeptOf-open s is_after = record {
   is_after = is_after;
   bounded = rw (is_after.flows, is_after.next) (IsBounded-legal s.config [] is_after.lawful tt);
   legal = tt;
+}
+
+-- a call that no test refuses is open
+pub opens-kept : (s : State) (h : List Entry) (call : Call) → IsKeptOf s h → length h < MAX_WHOLE_HISTORY
+    → refusal_of s.config h call ≡ None → IsOpenTo s call (situation_of s.config h)
+opens-kept s h call kept short unrefused = record {
+  is_after = kept.is_after;
+  sound = IsSoundIn-legal s.config h kept.is_after.lawful kept.legal;
+  short = short;
+  unrefused = unrefused;
 }
 
 module _ (s : State) (h : List Entry) (e : Entry) (kept : IsKeptOf s h) where
@@ -65,21 +83,12 @@ module _ (s : State) (h : List Entry) (e : Entry) (kept : IsKeptOf s h) where
       let step : IsStep s.config h e.call e.reply =
       subst (λ o. MatchOption o (Answers s.config h e.call e.reply) (λ r. e.reply ≡ Refused r)) (sym first) same in
       IsKeptOf-push s s h e kept refl step
-      (IsStateAfter-quiet s h kept.is_after e.stamp e.call e.reply (rw same (IsQuiet-refused s.config e.call refusal)))
+      (IsStateAfter-quiet s (situation_of s.config h) kept.is_after e.call e.reply
+      (rw same (IsQuiet-refused s.config e.call refusal)))
 
   module _ (short : length h < MAX_WHOLE_HISTORY) (unrefused : refusal_of s.config h e.call ≡ None) where
-    -- a call that no test refuses is open
-    pub IsOpenTo-kept : IsOpenTo s e.call h
-    IsOpenTo-kept = record {
-      is_after = kept.is_after;
-      bounded = kept.bounded;
-      legal = kept.legal;
-      short = short;
-      unrefused = unrefused;
-    }
-
     -- after its answer
-    pub IsKeptOf-followed : (t : State) → IsFollowed s t e.call e.reply h → IsKeptOf t (h ++ e ∷ [])
+    pub IsKeptOf-followed : (t : State) → IsFollowed s t e.call e.reply (situation_of s.config h) → IsKeptOf t (h ++ e ∷ [])
     IsKeptOf-followed t followed =
         IsKeptOf-push s t h e kept followed.config
-        (IsStep-answered s.config h e.call e.reply unrefused followed.answers) (followed.is_after e.stamp)
+        (IsStep-answered s.config h e.call e.reply unrefused followed.answers) followed.is_after

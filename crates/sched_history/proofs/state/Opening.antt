@@ -1,6 +1,6 @@
 -- The state before any call.
-use Rattle.std.proofs.Common.{◌≡◌, ◌≤◌, [], None, refl, sym, ◌∙◌, arith, replicate}
-use Rattle.std.proofs.lemmas.List.{get_or-replicate}
+use Rattle.std.proofs.Common.{◌≡◌, ℕ, zero, suc, ◌+◌, ◌≤◌, [], ◌∷◌, map, take, None, refl, sym, ap, ◌∙◌, arith, replicate}
+use Rattle.periodic.specs.Placement.{count_from}
 use Rattle.std.specs.Prelude.{vec_capacity}
 use Rattle.minislots.specs.declared.config.Config.{Config}
 use Rattle.minislots.specs.Config.{IsLawful}
@@ -9,7 +9,8 @@ use Rattle.sched_calls.specs.Header.{header_of}
 use Rattle.sched_history.specs.declared.scheduler.state.State.{State}
 use Rattle.sched_history.specs.declared.scheduler.Scheduler.TheInside.{Inside}
 use Rattle.sched_history.specs.Life.{flows_of, table_of}
-use Rattle.sched_history.specs.Time.{next_after}
+use Rattle.sched_history.specs.Time.{next_after, progress_of}
+use Rattle.sched_history.specs.Situation.{situation_of}
 use Rattle.sched_history.specs.State.{IsStateAfter, IsSound}
 use Rattle.sched_history.proofs.lives.LiveFlows.{flows_of-none, table_of-none}
 use Rattle.sched_history.proofs.steps.Bounded.{IsBounded-legal}
@@ -25,13 +26,23 @@ table_of-open = table_of-none [] (λ sid. refl)
 next-open : (c : Config) → next_after c [] ≡ c.start
 next-open c = omega arith
 
--- a state without flows is_after for the empty history
+counted-first : (n first start : ℕ) (f : ℕ → ℕ) → ((r : ℕ) → f r ≡ start)
+    → replicate n start ≡ map f (count_from first n)
+counted-first zero first start f same = refl
+counted-first (suc n) first start f same = rw (same first) (ap (λ ns. start ∷ ns) (counted-first n (first + 1) start f same))
+
+take-replicate : (m n start : ℕ) → m ≤ n → take m (replicate n start) ≡ replicate m start
+take-replicate zero n start le = refl
+take-replicate (suc m) zero start le = absurd (omega arith)
+take-replicate (suc m) (suc n) start le = ap (λ ns. start ∷ ns) (take-replicate m n start (omega arith))
+
+-- fields without flows stand for what no call leaves
 pub IsStateAfter-open : (s : State) → IsLawful s.config → s.book.config ≡ s.config → s.book.flows ≡ []
     → s.table.config ≡ s.config
     → s.table.placed ≡ [] → s.next ≡ s.config.start
     → s.progress ≡ replicate 16 s.config.start → s.reserves ≡ [] → s.header ≡ header_of s.config
     → s.settling ≡ record { count = s.config.ucd_count; change = None } → s.last_ack ≡ s.config.start
-    → IsStateAfter s []
+    → IsStateAfter s (situation_of s.config [])
 IsStateAfter-open s lawful book_config flows table_config placed next progress reserves header settling ack =
     let bounds = bounds_of s.config lawful in
     record {
@@ -42,9 +53,9 @@ IsStateAfter-open s lawful book_config flows table_config placed next progress r
       placed = placed ∙ sym table_of-open;
       next = next ∙ sym (next-open s.config);
       places = rw progress refl;
-      progress =
-          λ receiver below. rw progress
-          (get_or-replicate 16 receiver s.config.start 0 (omega (arith, bounds.receivers_most)));
+      progress = ap (take s.config.receivers) progress
+          ∙ take-replicate s.config.receivers 16 s.config.start (omega (arith, bounds.receivers_most))
+          ∙ counted-first s.config.receivers 0 s.config.start (λ r. progress_of s.config r []) (λ r. refl);
       reserves = reserves;
       header = header;
       settling = settling;
@@ -52,7 +63,7 @@ IsStateAfter-open s lawful book_config flows table_config placed next progress r
     }
 
 -- A scheduler without entries is sound, where its fields stand for the empty history
-pub IsSound-open : (a : Inside) → IsStateAfter a.state [] → a.ledger ≡ [] → a.entries.items ≡ []
+pub IsSound-open : (a : Inside) → IsStateAfter a.state (situation_of a.state.config []) → a.ledger ≡ [] → a.entries.items ≡ []
     → a.state.config.calls ≤ vec_capacity a.entries → IsSound a
 IsSound-open a is_after none empty reserved = record {
   is_after = rw none is_after;

@@ -14,8 +14,10 @@ use Rattle.sched_calls.specs.declared.call.Call.TheVariants.{Build}
 use Rattle.sched_calls.specs.declared.reply.TheConstants.{MAX_WHOLE_HISTORY}
 use Rattle.sched_calls.specs.declared.reply.Reply.{Reply}
 use Rattle.sched_calls.specs.declared.reply.Entry.{Entry}
+use Rattle.sched_calls.specs.declared.reply.Reply.TheVariants.{Built}
+use Rattle.sched_history.specs.Situation.{Situation, situation_of, after}
 use Rattle.sched_history.specs.Refusal.{refusal_of}
-use Rattle.sched_history.specs.History.{IsStep, IsLegal}
+use Rattle.sched_history.specs.History.{IsNextMap, IsStep, IsLegal}
 use Rattle.sched_history.specs.Machine.{Machine, kept_of, is_full}
 use Rattle.sched_calls.specs.Reply.{IsEncodable}
 use Rattle.sched_history.specs.Planned.{PlannedBuild, IsPlanAfter}
@@ -25,6 +27,8 @@ use Rattle.flow_book.proofs.Order.{all-push}
 use Rattle.sched_history.proofs.steps.Passed.{above, neither}
 use Rattle.sched_history.proofs.steps.Steps.{IsLegal-push, IsStep-answered}
 use Rattle.sched_history.proofs.steps.Bounded.{IsBounded-legal}
+use Rattle.sched_history.proofs.situations.Leaving.{situation_of-push}
+use Rattle.sched_history.proofs.situations.Sound.{IsSoundIn-legal}
 
 -- there is room for one entry more
 pub room-kept : (m : Machine) → is_full m ≡ false → length (kept_of m) < m.config.calls
@@ -88,14 +92,17 @@ module _ (a b : Inside) (e : Entry) (sound : IsSound a) (ledger : b.ledger ≡ a
   -- is sound, where its fields stand for the history
   pub IsSound-push : vec_capacity b.entries ≡ vec_capacity a.entries → b.state.config ≡ a.state.config
       → is_full (machine_of a) ≡ false → IsStep a.state.config a.ledger e.call e.reply → IsEncodable e.reply
-      → IsStateAfter b.state (a.ledger ++ e ∷ []) → IsSound b
-  IsSound-push capacity config room step encodable is_after =
+      → IsStateAfter b.state (after a.state.config (situation_of a.state.config a.ledger) e.call e.reply) → IsSound b
+  IsSound-push capacity config room step encodable left =
       let legal : IsLegal a.state.config (a.ledger ++ e ∷ []) =
       IsLegal-push a.state.config a.ledger e sound.legal step in
       let below : length a.entries.items < a.state.config.calls =
       subst (λ h. length h < a.state.config.calls) sound.kept (room-kept (machine_of a) room) in
+      let is_after : IsStateAfter b.state (situation_of a.state.config (a.ledger ++ e ∷ [])) =
+      subst (IsStateAfter b.state) (sym (situation_of-push a.state.config a.ledger e step)) left in
       record {
-        is_after = rw ledger is_after;
+        is_after = subst (λ c. IsStateAfter b.state (situation_of c b.ledger)) (sym config)
+            (subst (λ h. IsStateAfter b.state (situation_of a.state.config h)) (sym ledger) is_after);
         bounded = rw (ledger, is_after.flows, is_after.next, config)
             (IsBounded-legal a.state.config (a.ledger ++ e ∷ []) sound.is_after.lawful legal);
         legal = rw (config, ledger) legal;
@@ -110,22 +117,41 @@ module _ (a b : Inside) (e : Entry) (sound : IsSound a) (ledger : b.ledger ≡ a
 pub IsKeptOf-inside : (a : Inside) → IsSound a → IsKeptOf a.state a.ledger
 IsKeptOf-inside a sound = record { is_after = sound.is_after; bounded = sound.bounded; legal = sound.legal }
 
+-- a stamp
+first_stamp : Stamp
+first_stamp = record { seat = 0; ticket = 0 }
+
+-- a lawful build that no test refuses is a step
+step-planned : (m : Machine) (p : PlannedBuild) → refusal_of m.config m.history (Build p.clock) ≡ None
+    → IsNextMap m.config m.history p.map → IsStep m.config m.history (Build p.clock) (Built p.map)
+step-planned m p unrefused lawful =
+    IsStep-answered m.config m.history (Build p.clock) (Built p.map) unrefused (p.map, lawful, refl)
+
 -- a planned build may follow
-pub IsBuildAfter-planned : (m : Machine) (p : PlannedBuild) → IsPlanAfter m p → IsBuildAfter m.config m.history p
+pub IsBuildAfter-planned : (m : Machine) (p : PlannedBuild) → IsPlanAfter m p
+    → IsBuildAfter m.config (situation_of m.config m.history) p
 IsBuildAfter-planned m p fits =
+    let e : Entry = record { stamp = first_stamp; call = Build p.clock; reply = Built p.map } in
+    let left = situation_of-push m.config m.history e (step-planned m p fits.unrefused fits.lawful) in
     record {
       lawful = fits.lawful;
       encodable = fits.encodable;
       config = fits.config;
       before = fits.before;
-      flows = fits.flows;
-      reserves = fits.reserves;
+      flows = fits.flows first_stamp ∙ ap (λ (x : Situation). x.flows) left;
+      reserves = fits.reserves first_stamp ∙ ap (λ (x : Situation). x.reserves) left;
     }
 
 -- and is planned, where there is room and no test refuses it
 pub IsPlanAfter-build : (m : Machine) (p : PlannedBuild) → is_full m ≡ false
-    → refusal_of m.config m.history (Build p.clock) ≡ None → IsBuildAfter m.config m.history p → IsPlanAfter m p
+    → refusal_of m.config m.history (Build p.clock) ≡ None
+    → IsBuildAfter m.config (situation_of m.config m.history) p → IsPlanAfter m p
 IsPlanAfter-build m p room unrefused fits =
+    let left : (stamp : Stamp)
+        → situation_of m.config (m.history ++ record { stamp = stamp; call = Build p.clock; reply = Built p.map } ∷ [])
+        ≡ after m.config (situation_of m.config m.history) (Build p.clock) (Built p.map) =
+    λ stamp. situation_of-push m.config m.history (record { stamp = stamp; call = Build p.clock; reply = Built p.map })
+    (step-planned m p unrefused fits.lawful) in
     record {
       room = room;
       unrefused = unrefused;
@@ -133,17 +159,17 @@ IsPlanAfter-build m p room unrefused fits =
       encodable = fits.encodable;
       config = fits.config;
       before = fits.before;
-      flows = fits.flows;
-      reserves = fits.reserves;
+      flows = λ stamp. fits.flows ∙ sym (ap (λ (x : Situation). x.flows) (left stamp));
+      reserves = λ stamp. fits.reserves ∙ sym (ap (λ (x : Situation). x.reserves) (left stamp));
     }
 
 -- a call that no test refuses is open
 pub IsOpenTo-inside : (a : Inside) (m : Machine) → machine_of a ≡ m → (call : Call) → IsSound a
-    → is_full m ≡ false → refusal_of m.config m.history call ≡ None → IsOpenTo a.state call a.ledger
+    → is_full m ≡ false → refusal_of m.config m.history call ≡ None
+    → IsOpenTo a.state call (situation_of a.state.config a.ledger)
 IsOpenTo-inside a m is call sound room none = record {
   is_after = sound.is_after;
-  bounded = sound.bounded;
-  legal = sound.legal;
+  sound = IsSoundIn-legal a.state.config a.ledger sound.is_after.lawful sound.legal;
   short = room-ledger a m is room;
   unrefused = subst (λ n. refusal_of n.config n.history call ≡ None) (sym is) none;
 }
@@ -169,7 +195,8 @@ module _ (a b : Inside) (stamp : Stamp) (call : Call) (reply : Reply) (sound : I
       })
 
   -- So it is with the answer to an open call
-  module _ (opens : IsOpenTo a.state call a.ledger) (answered : IsFollowed a.state b.state call reply a.ledger) where
+  module _ (opens : IsOpenTo a.state call (situation_of a.state.config a.ledger))
+      (answered : IsFollowed a.state b.state call reply (situation_of a.state.config a.ledger)) where
     step-is : IsStep a.state.config a.ledger call reply
     step-is = IsStep-answered a.state.config a.ledger call reply opens.unrefused answered.answers
 
@@ -180,23 +207,23 @@ module _ (a b : Inside) (stamp : Stamp) (call : Call) (reply : Reply) (sound : I
     pub IsSound-answered : vec_capacity b.entries ≡ vec_capacity a.entries → is_full (machine_of a) ≡ false → IsSound b
     IsSound-answered capacity room =
         IsSound-push a b told sound counted entered capacity answered.config room step-is answered.encodable
-        (answered.is_after stamp)
+        answered.is_after
 
 -- A scheduler in which a planned build is entered
 module _ (a b : Inside) (m : Machine) (is : machine_of a ≡ m) (stamp : Stamp) (now : ℕ) (frame : PlannedFrame)
     (reply : Reply) (sound : IsSound a) (fits : IsPlanAfter m (build_of now frame))
-    (answered : (n : ℕ) (h : List Entry) → IsOpenTo a.state (Build n) h
-    → IsBuildAfter a.state.config h (build_of n frame) → IsFollowed a.state b.state (Build n) reply h)
+    (answered : (n : ℕ) (x : Situation) → IsOpenTo a.state (Build n) x
+    → IsBuildAfter a.state.config x (build_of n frame) → IsFollowed a.state b.state (Build n) reply x)
     (counted : b.ledger ≡ a.ledger ++ record { stamp = stamp; call = Build now; reply = reply } ∷ [])
     (entered : b.entries.items
     ≡ a.entries.items ++ record { stamp = stamp; call = Build now; reply = reply } ∷ []) where
-  pub opens-planned : IsOpenTo a.state (Build now) a.ledger
+  pub opens-planned : IsOpenTo a.state (Build now) (situation_of a.state.config a.ledger)
   opens-planned = IsOpenTo-inside a m is (Build now) sound fits.room fits.unrefused
 
-  answers-planned : IsFollowed a.state b.state (Build now) reply a.ledger
+  answers-planned : IsFollowed a.state b.state (Build now) reply (situation_of a.state.config a.ledger)
   answers-planned =
-      answered now a.ledger opens-planned
-      (subst (λ n. IsBuildAfter n.config n.history (build_of now frame)) (sym is)
+      answered now (situation_of a.state.config a.ledger) opens-planned
+      (subst (λ n. IsBuildAfter n.config (situation_of n.config n.history) (build_of now frame)) (sym is)
       (IsBuildAfter-planned m (build_of now frame) fits))
 
   -- is sound

@@ -8,14 +8,13 @@ use Rattle.flow_book.specs.Flows.{LiveFlow}
 use Rattle.flow_book.specs.FlowState.{flow_state}
 use Rattle.periodic.specs.Placement.{Placed}
 use Rattle.periodic.specs.PlaceState.{place_state_of}
-use Rattle.sched_calls.specs.declared.reply.Entry.{Entry}
 use Rattle.sched_calls.specs.declared.state.ChannelState.{ChannelState}
 use Rattle.sched_calls.specs.declared.state.FlowState.{FlowState}
 use Rattle.sched_calls.specs.declared.state.PlaceState.{PlaceState}
 use Rattle.sched_history.specs.declared.scheduler.state.State.{State}
-use Rattle.sched_history.specs.ChannelState.{flow_state_in, reserve_state, state_of}
+use Rattle.sched_history.specs.ChannelState.{flow_state_in, reserve_state, state_in}
+use Rattle.sched_history.specs.Situation.{Situation}
 use Rattle.sched_history.specs.State.{IsStateAfter}
-use Rattle.sched_history.proofs.state.Building.{progress-after}
 
 -- a member more of a list's first ones
 take-gets : {X : Type 0} (xs : List X) (i : ℕ) (x : X) → slice_get xs i ≡ Some x
@@ -57,11 +56,11 @@ kept_state s entries = record {
   reserves = map reserve_state s.reserves;
 }
 
--- it is that after the history
-pub state-after : (s : State) (h : List Entry) → IsStateAfter s h → kept_state s (length h) ≡ state_of s.config h
-state-after s h is_after =
+-- it is that of what the fields stand for
+pub state-after : (s : State) (x : Situation) → IsStateAfter s x → kept_state s x.entries ≡ state_in s.config x
+state-after s x is_after =
     rw (
-      progress-after s h is_after,
+      is_after.progress,
       is_after.next,
       is_after.last_ack,
       is_after.header,

@@ -21,3 +21,8 @@ module _ (c : Config) (h : List Entry) (call : Call) where
   IsStep-answered reply unrefused answers =
       subst (λ refusal. MatchOption refusal (Answers c h call reply) (λ r. reply ≡ replies.Refused r))
       (sym unrefused) answers
+
+  -- and a step where nothing refuses is the answer
+  pub Answers-from_step : (reply : Reply) → refusal_of c h call ≡ None → IsStep c h call reply → Answers c h call reply
+  Answers-from_step reply unrefused step =
+      subst (λ refusal. MatchOption refusal (Answers c h call reply) (λ r. reply ≡ replies.Refused r)) unrefused step

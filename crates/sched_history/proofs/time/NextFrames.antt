@@ -14,9 +14,9 @@ use Rattle.sched_calls.specs.declared.reply.Reply.TheVariants as replies
 use Rattle.sched_calls.specs.declared.reply.Entry.{Entry}
 use Rattle.sched_history.specs.Time.{is_built, next_after, IsFirstStart}
 use Rattle.sched_history.specs.Refusal.{refusal_of}
-use Rattle.sched_history.specs.History.{IsNextMap, map_by, IsStep, IsLegal}
+use Rattle.sched_history.specs.History.{IsNextMapIn, IsNextMap, map_by, IsStep, IsLegal}
 use Rattle.sched_history.specs.Facts.{maps_of, StartsAscend}
-use Rattle.sched_history.specs.Situation.{situation_of}
+use Rattle.sched_history.specs.Situation.{Situation, situation_of}
 use Rattle.sched_history.proofs.steps.LegalHistories.{IsStill, Builds, Skips, Stays, change_by_step}
 use Rattle.sched_history.proofs.steps.LegalHistories.{accepted, legal_induction}
 use Rattle.sched_history.proofs.steps.Passed.{passed-skip}
@@ -69,6 +69,9 @@ later_ended c slot later [] le ended = tt
 later_ended c slot later (m ∷ maps) le ended = (omega (arith, ended.0), later_ended c slot later maps le ended.1)
 
 -- the MAP of the next frame starts with it
+pub next_start_in : (c : Config) (x : Situation) (m : FrameMap) → IsNextMapIn c x m → m.start ≡ x.next
+next_start_in c x m next = ap (λ m. m.start) next.2
+
 pub next_start : (c : Config) (h : List Entry) (m : FrameMap) → IsNextMap c h m → m.start ≡ next_after c h
 next_start c h m next = ap (λ m. m.start) next.2
 

@@ -3,7 +3,7 @@
 ghost use Rattle.std.specs.Prelude.{◌≡◌, ◌+◌, ℕ, List, false, true, Some, IfOk, OnErr};
 ghost use Rattle.sched_calls.specs.FlowSpec.{is_periodic};
 ghost use Rattle.sched_calls.specs.Reply.{OwnsMemory};
-ghost use Rattle.sched_calls.specs.declared.reply.Entry.{Entry};
+ghost use Rattle.sched_history.specs.Situation.{Situation};
 ghost use Rattle.sched_history.specs.Time.{IsFirstStart};
 ghost use Rattle.sched_history.specs.State.{IsOpenTo, IsOpen, IsBuildAfter, FollowsOpen, TakesMemoryOpen, IsFollowed, build_of};
 ghost use Rattle.sched_history.specs.Audit.{is_told};
@@ -252,12 +252,12 @@ impl State {
     // Describes the next frame by the MAP that is planned.
     #[inline(always)]
     pub(super) fn commit(&mut self, frame: PlannedFrame) -> Reply
-        requires { (now : ℕ) × (h : List Entry) × IsOpenTo self.old (Call.Build now) h
-            × IsBuildAfter self.old.config h (build_of now frame) }
+        requires { (now : ℕ) × (x : Situation) × IsOpenTo self.old (Call.Build now) x
+            × IsBuildAfter self.old.config x (build_of now frame) }
         ensures built { result ≡ Reply.Built frame.map }
-        ensures answered { (now : ℕ) (h : List Entry) → IsOpenTo self.old (Call.Build now) h
-            → IsBuildAfter self.old.config h (build_of now frame)
-            → IsFollowed self.old self.new (Call.Build now) result h }
+        ensures answered { (now : ℕ) (x : Situation) → IsOpenTo self.old (Call.Build now) x
+            → IsBuildAfter self.old.config x (build_of now frame)
+            → IsFollowed self.old self.new (Call.Build now) result x }
     {
         let PlannedFrame { map, overlay, met } = frame;
         let settles = self.settles();

@@ -16,8 +16,8 @@ ghost use Rattle.map_build.specs.FrameMap.{IsLawfulMap, IsLawfulFrame};
 ghost use Rattle.map_build.specs.Spots.{AreOfChannel, ArePeriodicOf};
 ghost use Rattle.sched_calls.specs.declared.reply.Reply.TheVariants.{Flow};
 ghost use Rattle.sched_history.specs.Time.{least, IsFirstStart};
-ghost use Rattle.sched_history.specs.History.{flow_status, IsNextMap};
-ghost use Rattle.sched_calls.specs.declared.reply.Entry.{Entry};
+ghost use Rattle.sched_history.specs.Situation.{Situation, situation_of};
+ghost use Rattle.sched_history.specs.History.{flow_status, IsNextMapIn};
 ghost use Rattle.sched_history.specs.Reserves.{waiting_in};
 ghost use Rattle.sched_history.specs.State.{next_demand, settles_next, IsStateAfter, IsOpenTo, IsOpen, IsBuildAfter, build_of};
 ghost use Rattle.sched_history.specs.Facts.{IsWithinAsked};
@@ -89,7 +89,7 @@ impl State {
     // The state before any call.
     pub(crate) fn open(alloc: Global, config: Checked) -> Result<State, AllocError>
         ensures config { IfOk result (λ state. state.config ≡ config) }
-        ensures is_after { IfOk result (λ state. IsStateAfter state []) }
+        ensures is_after { IfOk result (λ state. IsStateAfter state (situation_of state.config [])) }
     {
         let start = config.start();
         Ok(State {
@@ -274,13 +274,13 @@ impl State {
 
     // The MAP of the next frame, with what it changes: whenever it is built.
     pub(super) fn plan_frame(&mut self, alloc: Global) -> Result<PlannedFrame, AllocError>
-        requires { (now : ℕ) × (h : List Entry) × IsOpenTo self.old (Call.Build now) h }
-        ensures fits { IfOk result (λ frame. (now : ℕ) (h : List Entry)
-            → IsOpenTo self.old (Call.Build now) h
-            → IsBuildAfter self.old.config h (build_of now frame)) }
-        ensures only { IfOk result (λ frame. (now : ℕ) (h : List Entry)
-            → IsOpenTo self.old (Call.Build now) h
-            → (n : FrameMap) → IsNextMap self.old.config h n → n ≡ frame.map) }
+        requires { (now : ℕ) × (x : Situation) × IsOpenTo self.old (Call.Build now) x }
+        ensures fits { IfOk result (λ frame. (now : ℕ) (x : Situation)
+            → IsOpenTo self.old (Call.Build now) x
+            → IsBuildAfter self.old.config x (build_of now frame)) }
+        ensures only { IfOk result (λ frame. (now : ℕ) (x : Situation)
+            → IsOpenTo self.old (Call.Build now) x
+            → (n : FrameMap) → IsNextMapIn self.old.config x n → n ≡ frame.map) }
         ensures same { self.new ≡ self.old }
     {
         let frame = self.plan_next(alloc)?;
@@ -291,8 +291,8 @@ impl State {
     pub(super) fn plan(&mut self, alloc: Global, now: u64) -> Result<Planned, AllocError>
         requires { IsOpen self.old (Call.Build now) }
         ensures clock { IfOk result (λ planned. planned.clock ≡ now) }
-        ensures fits { IfOk result (λ planned. (h : List Entry)
-            → IsOpenTo self.old (Call.Build now) h → IsBuildAfter self.old.config h planned) }
+        ensures fits { IfOk result (λ planned. (x : Situation)
+            → IsOpenTo self.old (Call.Build now) x → IsBuildAfter self.old.config x planned) }
         ensures same { self.new ≡ self.old }
     {
         let frame = self.plan_frame(alloc)?;

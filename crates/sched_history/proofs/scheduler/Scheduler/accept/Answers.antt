@@ -1,5 +1,6 @@
 -- The answer to an open call is entered.
 use Rattle.std.proofs.Common.{◌≡◌, false, sym, subst, Result, Ok, Err, OnErr}
+use Rattle.sched_history.specs.Situation.{situation_of}
 use Rattle.sched_history.specs.Machine.{is_full, TakesMemory}
 use Rattle.sched_history.proofs.state.Recording.{IsOpenTo-inside, IsSound-answered, IsRecorded-answered}
 use Rattle.sched_history.proofs.state.Recording.{room-ledger, room-reserved}
@@ -8,7 +9,7 @@ use Rattle.sched_history.proofs.scheduler.Scheduler.accept.Goals as goal
 pub answer-requires : goal.answer-requires
 answer-requires c =
     let a = c.self.inside in (
-      a.ledger,
+      situation_of a.state.config a.ledger,
       IsOpenTo-inside a c.args.self.now c.self.view_is c.args.call c.self.invariant c.requires.room
           c.requires.unrefused,
     )
@@ -24,7 +25,7 @@ returns-in_err-answer-clause-memory c =
     c.requires.unrefused in
     on-err c.from_residual.result _
     (subst (λ m. TakesMemory m.config m.history c.args.call) c.self.view_is
-    (c.in_err-answer.ensures.memory a.ledger opens))
+    (c.in_err-answer.ensures.memory (situation_of a.state.config a.ledger) opens))
 
 pub returns-clause-recorded : goal.returns-clause-recorded
 returns-clause-recorded c =
@@ -36,7 +37,7 @@ returns-clause-recorded c =
       IsRecorded-answered a
           (record { state = c.answer.new.self; ledger = c.note.new.ledger; entries = c.note.new.entries })
           c.args.stamp c.args.call answer.answer.reply c.self.invariant c.note.ensures.counted c.note.ensures.items
-          opens (answer.ensures.answered a.ledger opens) c.args.self.now c.self.view_is,
+          opens (answer.ensures.answered (situation_of a.state.config a.ledger) opens) c.args.self.now c.self.view_is,
       answer.ensures.copied,
     )
 
@@ -46,7 +47,7 @@ invariant_of-self-2 c =
     let opens = IsOpenTo-inside a c.args.self.now c.self.view_is c.args.call c.self.invariant c.requires.room
     c.requires.unrefused in
     IsSound-answered a _ c.args.stamp c.args.call c.in_ok-answer.answer.reply c.self.invariant
-    c.note.ensures.counted c.note.ensures.items opens (c.in_ok-answer.ensures.answered a.ledger opens)
+    c.note.ensures.counted c.note.ensures.items opens (c.in_ok-answer.ensures.answered (situation_of a.state.config a.ledger) opens)
     c.note.ensures.capacity (subst (λ m. is_full m ≡ false) (sym c.self.view_is) c.requires.room)
 
 pub note-requires-clause-few : goal.note-requires-clause-few

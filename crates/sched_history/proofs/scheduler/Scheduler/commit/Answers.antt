@@ -5,6 +5,7 @@ use Rattle.sched_calls.specs.declared.frame_map.FrameMap.{FrameMap}
 use Rattle.sched_calls.specs.declared.call.Call.TheVariants.{Build}
 use Rattle.sched_calls.specs.declared.reply.Reply.TheVariants.{Built}
 use Rattle.sched_history.specs.declared.scheduler.Scheduler.TheInside.{Inside}
+use Rattle.sched_history.specs.Situation.{situation_of}
 use Rattle.sched_history.specs.Planned.{IsPlanAfter}
 use Rattle.sched_history.specs.State.{IsBuildAfter, build_of}
 use Rattle.sched_history.proofs.state.Recording.{IsOpenTo-inside, IsBuildAfter-planned, IsSound-planned}
@@ -19,9 +20,9 @@ commit-reply-requires c =
     let p = build_of now c.planned.inside.frame in
     let fits = subst (IsPlanAfter m) (sym c.planned.view_is) c.requires in (
       now,
-      a.ledger,
+      situation_of a.state.config a.ledger,
       IsOpenTo-inside a m c.self.view_is (Build now) c.self.invariant fits.room fits.unrefused,
-      subst (λ n. IsBuildAfter n.config n.history p) (sym c.self.view_is) (IsBuildAfter-planned m p fits),
+      subst (λ n. IsBuildAfter n.config (situation_of n.config n.history) p) (sym c.self.view_is) (IsBuildAfter-planned m p fits),
     )
 
 pub invariant_of-self : goal.invariant_of-self

@@ -1,6 +1,7 @@
 -- A build that no test refuses is planned.
 use Rattle.std.proofs.Common.{◌≡◌, false, sym, subst}
 use Rattle.sched_calls.specs.declared.call.Call.TheVariants.{Build}
+use Rattle.sched_history.specs.Situation.{situation_of}
 use Rattle.sched_history.specs.Machine.{is_full}
 use Rattle.sched_history.specs.State.{IsBuildAfter}
 use Rattle.sched_history.proofs.state.Recording.{IsOpenTo-inside, IsPlanAfter-build}
@@ -11,7 +12,7 @@ pub plan-requires : goal.plan-requires
 plan-requires c =
     let a = c.self.inside in
     let m = c.args.self.now in (
-      a.ledger,
+      situation_of a.state.config a.ledger,
       IsOpenTo-inside a m c.self.view_is (Build c.args.now) c.self.invariant (sym c.if-is_full.ensures.value)
           (sym c.in_default.ensures),
     )
@@ -27,7 +28,7 @@ returns-clause-fits c =
       | in-Ok w ↦ rw w.result-is
           (IsPlanAfter-build m w.in-Ok.planned room
           (rw w.in-Ok.ensures.clock (sym c.in_default.ensures))
-          (subst (λ n. IsBuildAfter n.config n.history w.in-Ok.planned) c.self.view_is
-          (w.in-Ok.ensures.fits a.ledger opens)))
+          (subst (λ n. IsBuildAfter n.config (situation_of n.config n.history) w.in-Ok.planned) c.self.view_is
+          (w.in-Ok.ensures.fits (situation_of a.state.config a.ledger) opens)))
       | in-Err w ↦ rw w.result-is tt
     ]

@@ -1,9 +1,10 @@
 -- A refusal is entered, and changes nothing else.
 use Rattle.std.proofs.Common.{◌≡◌, false, refl, sym, subst}
 use Rattle.sched_calls.specs.declared.reply.Reply.TheVariants.{Refused}
+use Rattle.sched_history.specs.Situation.{situation_of}
 use Rattle.sched_history.specs.History.{IsStep}
 use Rattle.sched_history.specs.Machine.{is_full}
-use Rattle.sched_history.proofs.flows.Refused.{IsQuiet-refused}
+use Rattle.sched_history.proofs.situations.Quiet.{IsQuiet-refused}
 use Rattle.sched_history.proofs.state.Moves.{IsStateAfter-quiet}
 use Rattle.sched_history.proofs.state.Recording.{IsSound-push, IsRecorded-step, room-ledger, room-reserved}
 use Rattle.sched_history.proofs.scheduler.Scheduler.refuse.Goals as goal
@@ -17,7 +18,7 @@ invariant_of-self c =
     c.note.ensures.counted c.note.ensures.items c.note.ensures.capacity refl
     (subst (λ m. is_full m ≡ false) was c.requires.room)
     (subst (λ m. IsStep m.config m.history c.args.call reply) was c.requires.step) tt
-    (IsStateAfter-quiet a.state a.ledger c.self.invariant.is_after c.args.stamp c.args.call reply
+    (IsStateAfter-quiet a.state (situation_of a.state.config a.ledger) c.self.invariant.is_after c.args.call reply
     (IsQuiet-refused a.state.config c.args.call c.args.refusal))
 
 pub returns : goal.returns

@@ -29,7 +29,7 @@ returns-in-Built-clause-met c =
     (subst (λ es. met.items ≡ (if settles_next s then []
     else met_in s.table.config (due_in s.table.config (s.next / s.config.frame) s.table.placed)
     (waiting_in s.reserves) es)) c.as_slice.ensures is
-    ∙ met_by-after s h kept.is_after elements)))
+    ∙ met_by-after s (situation_of s.config h) kept.is_after elements)))
     c.met_in.ensures
 
 met_after-unbuilt : (c : Config) (h : List Entry) (reply : Reply) → map_by reply ≡ None → met_after c h reply ≡ []

@@ -1,12 +1,15 @@
 use Rattle.std.proofs.Common.{◌∙◌, ap, arith}
 use Rattle.minislots.proofs.Bounds.{bounds_of}
-use Rattle.sched_history.proofs.placements.Counts.{grants-placed_by}
+use Rattle.sched_history.specs.Situation.{situation_of}
+use Rattle.sched_history.proofs.placements.PeriodicFlows.{ArePeriodicOf-legal}
+use Rattle.sched_history.proofs.state.Present.{grants-placed_by}
 use Rattle.sched_history.proofs.scheduler.present.Present.periodic_grants.Goals as goal
 
 pub returns-clause-value : goal.returns-clause-value
 returns-clause-value c = rw (← c.self.view_is)
-    (c.grants.ensures.value ∙ grants-placed_by c.self.inside.state.now c.self.inside.ledger.now
-    c.self.invariant.is_after c.self.invariant.legal)
+    (c.grants.ensures.value ∙ grants-placed_by c.self.inside.state.now
+    (situation_of c.self.inside.state.now.config c.self.inside.ledger.now) c.self.invariant.is_after
+    (ArePeriodicOf-legal c.self.inside.state.now.config c.self.inside.ledger.now c.self.invariant.legal))
 
 pub returns-clause-most : goal.returns-clause-most
 returns-clause-most c =

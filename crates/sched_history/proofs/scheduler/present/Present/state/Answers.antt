@@ -1,5 +1,6 @@
 -- What is kept is the state after the history.
 use Rattle.std.proofs.Common.{◌∙◌, ap}
+use Rattle.sched_history.specs.Situation.{situation_of}
 use Rattle.sched_history.specs.ChannelState.{state_of}
 use Rattle.sched_history.specs.Machine.{Past}
 use Rattle.sched_history.proofs.state.States.{state-after}
@@ -14,4 +15,4 @@ returns c =
       c.in_ok-receivers.ensures,
       c.in_ok-flows.ensures,
       c.in_ok-reserves_of.ensures,
-    ) (state-after s h c.self.invariant.is_after ∙ ap (λ (p : Past). state_of p.config p.history) c.self.view_is)
+    ) (state-after s (situation_of s.config h) c.self.invariant.is_after ∙ ap (λ (p : Past). state_of p.config p.history) c.self.view_is)

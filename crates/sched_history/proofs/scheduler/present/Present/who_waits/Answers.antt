@@ -6,6 +6,7 @@ use Rattle.flow_book.specs.declared.standing.Standing.{Standing}
 use Rattle.sched_calls.specs.declared.reply.Entry.{Entry}
 use Rattle.sched_history.specs.declared.scheduler.state.State.{State}
 use Rattle.sched_history.specs.Facts.{waits_by, waits_next}
+use Rattle.sched_history.specs.Situation.{situation_of}
 use Rattle.sched_history.specs.Machine.{Past}
 use Rattle.sched_history.specs.Settling.{settles_after}
 use Rattle.sched_history.specs.State.{settles_next, IsStateAfter}
@@ -15,11 +16,12 @@ use Rattle.sched_history.proofs.scheduler.present.Present.who_waits.Goals as goa
 pub who_waits-requires : goal.who_waits-requires
 who_waits-requires c = c.self.invariant.bounded.started
 
-waits-after : (standing : Standing) (s : State) (h : List Entry) → IsStateAfter s h
+waits-after : (standing : Standing) (s : State) (h : List Entry)
+    → IsStateAfter s (situation_of s.config h)
     → (if settles_next s then [] else map (λ f. f.sid) (filter (waits_so standing s.book.config s.next) s.book.flows))
     ≡ (if settles_after s.config h then [] else waits_next standing s.config h)
 waits-after standing s h is_after =
-    rw (settles_next-after s h is_after, is_after.book_config, is_after.next, is_after.flows) refl
+    rw (settles_next-after s (situation_of s.config h) is_after, is_after.book_config, is_after.next, is_after.flows) refl
 
 pub returns-in-Built-clause-waits : goal.returns-in-Built-clause-waits
 returns-in-Built-clause-waits c =

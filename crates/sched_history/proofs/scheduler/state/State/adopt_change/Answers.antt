@@ -1,10 +1,8 @@
 -- A flow is placed anew where it was placed elsewhere.
 use Rattle.std.proofs.Common.{false, Some, refl, inl, inr, Result, Ok, Err, OnErr}
 use Rattle.sched_calls.specs.declared.reply.Reply.TheVariants as replies
-use Rattle.sched_history.specs.Situation.{situation_of}
-use Rattle.sched_history.proofs.lives.Finding.{good_sid}
 use Rattle.sched_history.proofs.state.ChangeMoves.{IsStateAfter-changed}
-use Rattle.sched_history.proofs.state.Changing.{may, life, had, had-place, change-live, change-kind}
+use Rattle.sched_history.proofs.state.Changing.{had, had-place, change-live, change-kind}
 use Rattle.sched_history.proofs.state.Changing.{change-fault, change-is_placed, change-room, placed-answer}
 use Rattle.sched_history.proofs.state.Changing.{beside, beside-table, answers-given, given-answers, takes-given}
 use Rattle.sched_history.proofs.scheduler.state.State.adopt_change.Goals as goal
@@ -33,44 +31,42 @@ change-requires-clause-kind c = change-kind c.args.self.now c.requires.open.0 c.
 
 pub returns-in_err-adopt_anew-clause-memory : goal.returns-in_err-adopt_anew-clause-memory
 returns-in_err-adopt_anew-clause-memory c =
-    on-err c.from_residual.result _ (λ h opens. takes-given c.args.self.now h c.args.sid c.args.spec opens
+    on-err c.from_residual.result _ (λ x opens. takes-given c.args.self.now x c.args.sid c.args.spec opens
     (inr (
       c.requires.periodic,
       (
         c.args.placement.now,
-        beside c.args.self.now h c.args.sid c.args.spec opens
+        beside c.args.self.now x c.args.sid c.args.spec opens
             c.requires.periodic c.args.placement.now c.in_err-adopt_anew.ensures.memory,
       ),
     )))
 
 pub returns-then-not-branch-clause-differs : goal.returns-then-not-branch-clause-differs
-returns-then-not-branch-clause-differs c = λ is h opens answers.
+returns-then-not-branch-clause-differs c = λ is x opens answers.
     let s = c.args.self.now in
     let sid = c.args.sid in
     let spec = c.args.spec in
     let p = c.args.placement.now in
-    let other = had-place s h sid spec opens false c.requires.other in
+    let other = had-place s x sid spec opens false c.requires.other in
     c.in_ok-adopt_anew.ensures.unlawful c.if-not-branch.true
-    (beside-table s h sid spec opens c.requires.periodic p
-    (placed-answer s.config (situation_of s.config h) sid (had s h sid spec opens) spec p other c.requires.periodic
-    (given-answers s h sid spec opens (replies.Changed (Some p)) answers)))
+    (beside-table s x sid spec opens c.requires.periodic p
+    (placed-answer s.config x sid (had s x sid spec opens) spec p other c.requires.periodic
+    (given-answers s x sid spec opens (replies.Changed (Some p)) answers)))
 
 pub returns-clause-follows : goal.returns-clause-follows
-returns-clause-follows c = λ is h opens.
+returns-clause-follows c = λ is x opens.
     let s = c.args.self.now in
     let sid = c.args.sid in
     let spec = c.args.spec in
-    let known = life s h sid spec opens in
-    let good = good_sid sid (may s h sid spec opens).known.good in
     let p = c.args.placement.now in
     let taken = c.in_ok-adopt_anew.ensures in
-    let other = had-place s h sid spec opens false c.requires.other in
-    let lawful = beside s h sid spec opens c.requires.periodic p (taken.lawful c.if-not-branch.false) in
+    let other = had-place s x sid spec opens false c.requires.other in
+    let lawful = beside s x sid spec opens c.requires.periodic p (taken.lawful c.if-not-branch.false) in
     record {
       config = refl;
-      answers = answers-given s h sid spec opens (replies.Changed (Some p))
+      answers = answers-given s x sid spec opens (replies.Changed (Some p))
           (inr (inl (other, c.requires.periodic, inl (p, lawful, refl))));
       encodable = tt;
-      is_after = λ stamp. IsStateAfter-changed s h opens.is_after stamp sid spec known.0 known.1 p c.change.new.self
-          c.adopt_anew.new.self good.0 good.1 c.change.ensures taken.config (taken.placed c.if-not-branch.false);
+      is_after = IsStateAfter-changed s x opens.is_after sid spec p c.change.new.self
+          c.adopt_anew.new.self c.change.ensures taken.config (taken.placed c.if-not-branch.false);
     }

@@ -1,9 +1,8 @@
 -- A flow keeps its placement, which is told anew.
 use Rattle.std.proofs.Common.{true, Some, refl, ap, inl, Result, Ok, Err, OnErr}
 use Rattle.sched_calls.specs.declared.reply.Reply.TheVariants as replies
-use Rattle.sched_history.proofs.lives.Finding.{good_sid}
 use Rattle.sched_history.proofs.state.ChangeMoves.{IsStateAfter-changed}
-use Rattle.sched_history.proofs.state.Changing.{may, life, had, had-place, place-periodic, change-live, change-kind}
+use Rattle.sched_history.proofs.state.Changing.{had, had-place, place-periodic, change-live, change-kind}
 use Rattle.sched_history.proofs.state.Changing.{change-fault, change-aligned, change-next, change-is_placed}
 use Rattle.sched_history.proofs.state.Changing.{change-alike, kept-told, answers-given, takes-given}
 use Rattle.sched_history.proofs.scheduler.state.State.change_in_place.Goals as goal
@@ -67,30 +66,28 @@ change-requires-clause-kind c = change-kind c.args.self.now c.requires.open.0 c.
 
 pub returns-in_err-placement-clause-memory : goal.returns-in_err-placement-clause-memory
 returns-in_err-placement-clause-memory c =
-    on-err c.from_residual.result _ (λ h opens. takes-given c.args.self.now h c.args.sid c.args.spec opens
-    (inl (had-place c.args.self.now h c.args.sid c.args.spec opens true c.requires.alike)))
+    on-err c.from_residual.result _ (λ x opens. takes-given c.args.self.now x c.args.sid c.args.spec opens
+    (inl (had-place c.args.self.now x c.args.sid c.args.spec opens true c.requires.alike)))
 
 pub returns-in_err-copy-clause-memory : goal.returns-in_err-copy-clause-memory
 returns-in_err-copy-clause-memory c =
-    on-err c.from_residual-in_err-copy.result _ (λ h opens. takes-given c.args.self.now h c.args.sid c.args.spec opens
-    (inl (had-place c.args.self.now h c.args.sid c.args.spec opens true c.requires.alike)))
+    on-err c.from_residual-in_err-copy.result _ (λ x opens. takes-given c.args.self.now x c.args.sid c.args.spec opens
+    (inl (had-place c.args.self.now x c.args.sid c.args.spec opens true c.requires.alike)))
 
 pub returns-clause-answered : goal.returns-clause-answered
-returns-clause-answered c = λ h opens.
+returns-clause-answered c = λ x opens.
     let s = c.args.self.now in
     let sid = c.args.sid in
     let spec = c.args.spec in
-    let same = had-place s h sid spec opens true c.requires.alike in
-    let periodic = place-periodic (had s h sid spec opens).spec spec same in
-    let known = life s h sid spec opens in
-    let good = good_sid sid (may s h sid spec opens).known.good in
+    let same = had-place s x sid spec opens true c.requires.alike in
+    let periodic = place-periodic (had s x sid spec opens).spec spec same in
     let p = c.in_ok-placement.placement in
     record {
       config = refl;
-      answers = answers-given s h sid spec opens (replies.Changed (Some p))
-          (inl (same, (p, kept-told s h sid spec opens periodic p c.in_ok-placement.ensures, refl)));
+      answers = answers-given s x sid spec opens (replies.Changed (Some p))
+          (inl (same, (p, kept-told s x sid spec opens periodic p c.in_ok-placement.ensures, refl)));
       encodable = tt;
-      is_after = λ stamp. IsStateAfter-changed s h opens.is_after stamp sid spec known.0 known.1 p c.change.new.self
-          c.keep.new.self good.0 good.1 c.change.ensures (ap (λ t. t.config) c.keep.ensures)
+      is_after = IsStateAfter-changed s x opens.is_after sid spec p c.change.new.self
+          c.keep.new.self c.change.ensures (ap (λ t. t.config) c.keep.ensures)
           (ap (λ t. t.placed) c.keep.ensures);
     }

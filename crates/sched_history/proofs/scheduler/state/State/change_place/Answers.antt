@@ -3,11 +3,10 @@ use Rattle.std.proofs.Common.{false, Some, refl, inl, inr}
 use Rattle.sched_calls.specs.declared.call.Call.TheVariants as calls
 use Rattle.sched_calls.specs.declared.reply.Reply.TheVariants as replies
 use Rattle.sched_calls.specs.declared.reply.Refusal.TheVariants.{NoPlace}
-use Rattle.sched_history.proofs.lives.Finding.{good_sid}
 use Rattle.sched_history.proofs.state.ChangeMoves.{IsStateAfter-changed}
-use Rattle.sched_history.proofs.flows.Refused.{IsQuiet-refused}
+use Rattle.sched_history.proofs.situations.Quiet.{IsQuiet-refused}
 use Rattle.sched_history.proofs.state.Moves.{IsStateAfter-quiet}
-use Rattle.sched_history.proofs.state.Changing.{may, life, had-place, change-live, change-kind}
+use Rattle.sched_history.proofs.state.Changing.{had-place, change-live, change-kind}
 use Rattle.sched_history.proofs.state.Changing.{change-fault, change-aligned, change-next, change-is_placed, change-room}
 use Rattle.sched_history.proofs.state.Changing.{beside, none-beside, answers-given, takes-given}
 use Rattle.sched_history.proofs.scheduler.state.State.change_place.Goals as goal
@@ -39,46 +38,44 @@ pub change-requires-clause-kind : goal.change-requires-clause-kind
 change-requires-clause-kind c = change-kind c.args.self.now c.requires.open.0 c.args.sid c.args.spec c.requires.open.1
 
 pub returns-in-Ok-clause-answered : goal.returns-in-Ok-clause-answered
-returns-in-Ok-clause-answered c = λ h opens.
+returns-in-Ok-clause-answered c = λ x opens.
     let s = c.args.self.now in
     let sid = c.args.sid in
     let spec = c.args.spec in
-    let known = life s h sid spec opens in
-    let good = good_sid sid (may s h sid spec opens).known.good in
     let p = c.in-Ok.placement in
     let done = c.in-Ok.ensures in
-    let other = had-place s h sid spec opens false c.requires.other in
-    let lawful = beside s h sid spec opens c.requires.periodic p done.lawful in
+    let other = had-place s x sid spec opens false c.requires.other in
+    let lawful = beside s x sid spec opens c.requires.periodic p done.lawful in
     record {
       config = refl;
-      answers = answers-given s h sid spec opens (replies.Changed (Some p))
+      answers = answers-given s x sid spec opens (replies.Changed (Some p))
           (inr (inl (other, c.requires.periodic, inl (p, lawful, refl))));
       encodable = tt;
-      is_after = λ stamp. IsStateAfter-changed s h opens.is_after stamp sid spec known.0 known.1 p c.change.new.self
-          c.place_anew.new.self good.0 good.1 c.change.ensures done.config done.placed;
+      is_after = IsStateAfter-changed s x opens.is_after sid spec p c.change.new.self
+          c.place_anew.new.self c.change.ensures done.config done.placed;
     }
 
 pub returns-in-Err-NoPlace-clause-answered : goal.returns-in-Err-NoPlace-clause-answered
-returns-in-Err-NoPlace-clause-answered c = λ h opens.
+returns-in-Err-NoPlace-clause-answered c = λ x opens.
     let s = c.args.self.now in
     let sid = c.args.sid in
     let spec = c.args.spec in
-    let other = had-place s h sid spec opens false c.requires.other in
+    let other = had-place s x sid spec opens false c.requires.other in
     let none = (rw c.in-Err-NoPlace.field-0-is at c.in-Err-NoPlace.ensures).no_place.0 refl in
     rw (c.in-Err-NoPlace.ensures.err) (record {
       config = refl;
-      answers = answers-given s h sid spec opens (replies.Refused NoPlace)
-          (inr (inl (other, c.requires.periodic, inr (none-beside s h sid spec opens c.requires.periodic none, refl))));
+      answers = answers-given s x sid spec opens (replies.Refused NoPlace)
+          (inr (inl (other, c.requires.periodic, inr (none-beside s x sid spec opens c.requires.periodic none, refl))));
       encodable = tt;
-      is_after = λ stamp. IsStateAfter-quiet s h opens.is_after stamp (calls.Change sid spec) (replies.Refused NoPlace)
+      is_after = IsStateAfter-quiet s x opens.is_after (calls.Change sid spec) (replies.Refused NoPlace)
           (IsQuiet-refused s.config (calls.Change sid spec) NoPlace);
     })
 
 pub returns-in-Err-Memory-clause-memory : goal.returns-in-Err-Memory-clause-memory
-returns-in-Err-Memory-clause-memory c = λ h opens.
+returns-in-Err-Memory-clause-memory c = λ x opens.
     let s = c.args.self.now in
     let sid = c.args.sid in
     let spec = c.args.spec in
     let place = (rw c.in-Err-Memory.field-0-is at c.in-Err-Memory.ensures).memory refl in
-    takes-given s h sid spec opens
-    (inr (c.requires.periodic, (place.0, beside s h sid spec opens c.requires.periodic place.0 place.1)))
+    takes-given s x sid spec opens
+    (inr (c.requires.periodic, (place.0, beside s x sid spec opens c.requires.periodic place.0 place.1)))

@@ -2,7 +2,7 @@
 use Rattle.std.proofs.Common.{None, refl, inr}
 use Rattle.sched_calls.specs.declared.reply.Reply.TheVariants as replies
 use Rattle.sched_history.proofs.state.ChangeMoves.{IsStateAfter-given}
-use Rattle.sched_history.proofs.state.Changing.{life, change-live, change-kind, change-nowhere, answers-given}
+use Rattle.sched_history.proofs.state.Changing.{change-live, change-kind, change-nowhere, answers-given}
 use Rattle.sched_history.proofs.scheduler.state.State.change_unplaced.Goals as goal
 
 pub change-requires-clause-live : goal.change-requires-clause-live
@@ -12,14 +12,13 @@ pub change-requires-clause-kind : goal.change-requires-clause-kind
 change-requires-clause-kind c = change-kind c.args.self.now c.requires.open.0 c.args.sid c.args.spec c.requires.open.1
 
 pub returns : goal.returns
-returns c = λ h opens.
+returns c = λ x opens.
     let s = c.args.self.now in
-    let known = life s h c.args.sid c.args.spec opens in
     record {
       config = refl;
-      answers = answers-given s h c.args.sid c.args.spec opens (replies.Changed None)
+      answers = answers-given s x c.args.sid c.args.spec opens (replies.Changed None)
           (inr (inr (c.requires.aperiodic, refl)));
       encodable = tt;
-      is_after = λ stamp. IsStateAfter-given s h opens.is_after stamp c.args.sid c.args.spec known.0 known.1
-          c.change.new.self c.change.ensures (change-nowhere s h c.args.sid c.args.spec opens c.requires.aperiodic);
+      is_after = IsStateAfter-given s x opens.is_after c.args.sid c.args.spec
+          c.change.new.self c.change.ensures (change-nowhere s x c.args.sid c.args.spec opens c.requires.aperiodic);
     }

@@ -1,10 +1,8 @@
 -- A flow keeps the placement that is handed in.
 use Rattle.std.proofs.Common.{true, Some, refl, ap, inl}
 use Rattle.sched_calls.specs.declared.reply.Reply.TheVariants as replies
-use Rattle.sched_history.specs.Situation.{situation_of}
-use Rattle.sched_history.proofs.lives.Finding.{good_sid}
 use Rattle.sched_history.proofs.state.ChangeMoves.{IsStateAfter-changed}
-use Rattle.sched_history.proofs.state.Changing.{may, life, had, had-place, place-periodic, change-live, change-kind}
+use Rattle.sched_history.proofs.state.Changing.{had, had-place, place-periodic, change-live, change-kind}
 use Rattle.sched_history.proofs.state.Changing.{change-fault, change-aligned, change-next, change-is_placed}
 use Rattle.sched_history.proofs.state.Changing.{change-alike, kept-told, told-kept, answers-given, given-answers}
 use Rattle.sched_history.proofs.state.Changing.{kept-answer, change-at}
@@ -64,37 +62,33 @@ pub change-requires-clause-kind : goal.change-requires-clause-kind
 change-requires-clause-kind c = change-kind c.args.self.now c.requires.open.0 c.args.sid c.args.spec c.requires.open.1
 
 pub returns-then-not-is_told-clause-differs : goal.returns-then-not-is_told-clause-differs
-returns-then-not-is_told-clause-differs c = λ is h opens answers.
+returns-then-not-is_told-clause-differs c = λ is x opens answers.
     let s = c.args.self.now in
     let sid = c.args.sid in
     let spec = c.args.spec in
-    let same = had-place s h sid spec opens true c.requires.alike in
-    let periodic = place-periodic (had s h sid spec opens).spec spec same in
-    let known = life s h sid spec opens in
-    let good = good_sid sid (may s h sid spec opens).known.good in
-    let told = told-kept s h sid spec opens periodic c.args.placement.now
-    (kept-answer s.config (situation_of s.config h) sid (had s h sid spec opens) spec c.args.placement.now same periodic
-    (given-answers s h sid spec opens (replies.Changed (Some c.args.placement.now)) answers)) in
-    let stands = change-at s h sid spec opens periodic in
+    let same = had-place s x sid spec opens true c.requires.alike in
+    let periodic = place-periodic (had s x sid spec opens).spec spec same in
+    let told = told-kept s x sid spec opens periodic c.args.placement.now
+    (kept-answer s.config x sid (had s x sid spec opens) spec c.args.placement.now same periodic
+    (given-answers s x sid spec opens (replies.Changed (Some c.args.placement.now)) answers)) in
+    let stands = change-at s x sid spec opens periodic in
     let apart = rw stands at (c.if-not-is_told.ensures.other refl) in
     apart (rw stands at told)
 
 pub returns-clause-follows : goal.returns-clause-follows
-returns-clause-follows c = λ is h opens.
+returns-clause-follows c = λ is x opens.
     let s = c.args.self.now in
     let sid = c.args.sid in
     let spec = c.args.spec in
-    let same = had-place s h sid spec opens true c.requires.alike in
-    let periodic = place-periodic (had s h sid spec opens).spec spec same in
-    let known = life s h sid spec opens in
-    let good = good_sid sid (may s h sid spec opens).known.good in
+    let same = had-place s x sid spec opens true c.requires.alike in
+    let periodic = place-periodic (had s x sid spec opens).spec spec same in
     let p = c.args.placement.now in
     record {
       config = refl;
-      answers = answers-given s h sid spec opens (replies.Changed (Some p))
-          (inl (same, (p, kept-told s h sid spec opens periodic p (c.if-not-is_told.ensures.told refl), refl)));
+      answers = answers-given s x sid spec opens (replies.Changed (Some p))
+          (inl (same, (p, kept-told s x sid spec opens periodic p (c.if-not-is_told.ensures.told refl), refl)));
       encodable = tt;
-      is_after = λ stamp. IsStateAfter-changed s h opens.is_after stamp sid spec known.0 known.1 p c.change.new.self
-          c.keep.new.self good.0 good.1 c.change.ensures (ap (λ t. t.config) c.keep.ensures)
+      is_after = IsStateAfter-changed s x opens.is_after sid spec p c.change.new.self
+          c.keep.new.self c.change.ensures (ap (λ t. t.config) c.keep.ensures)
           (ap (λ t. t.placed) c.keep.ensures);
     }

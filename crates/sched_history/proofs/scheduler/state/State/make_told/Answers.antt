@@ -1,7 +1,6 @@
 -- A request is counted, and each other call has its own answer.
 use Rattle.std.proofs.Common.{◌≡◌, ℕ, Bool, true, false, not, refl, ap, ◌∙◌, arith}
 use Rattle.flow_book.specs.Book.{changed, with_asked}
-use Rattle.sched_history.specs.Situation.{situation_of}
 use Rattle.sched_history.proofs.steps.Passed.{passed-ask}
 use Rattle.sched_history.proofs.state.Present.{IsLive-after, asked-fits, takes-after}
 use Rattle.sched_history.proofs.rows.Limits.{most_history}
@@ -21,37 +20,37 @@ change_unplaced-requires-clause-aperiodic c = negated _ (rw c.in-Change.is at c.
 pub ask-requires-clause-live : goal.ask-requires-clause-live
 ask-requires-clause-live c =
     let s = c.args.self.now in
-    let h = c.requires.open.0 in
+    let x = c.requires.open.0 in
     let opens = rw c.in-Ask.is at c.requires.open.1 in
-    IsLive-after s h c.in-Ask.sid opens.is_after
-    (passed-ask s.config (situation_of s.config h) c.in-Ask.receiver c.in-Ask.sid c.in-Ask.amount c.in-Ask.heard opens.unrefused).known
+    IsLive-after s x c.in-Ask.sid opens.is_after
+    (passed-ask s.config x c.in-Ask.receiver c.in-Ask.sid c.in-Ask.amount c.in-Ask.heard opens.unrefused).known
 
 pub ask-requires-clause-fits : goal.ask-requires-clause-fits
 ask-requires-clause-fits c =
     let s = c.args.self.now in
-    let h = c.requires.open.0 in
+    let x = c.requires.open.0 in
     let opens = rw c.in-Ask.is at c.requires.open.1 in
-    let asks = passed-ask s.config (situation_of s.config h) c.in-Ask.receiver c.in-Ask.sid c.in-Ask.amount c.in-Ask.heard opens.unrefused in
-    asked-fits s h c.in-Ask.sid c.bytes-bytes.result (omega (arith, asks.most, c.bytes-bytes.ensures))
-    (omega (arith, opens.short, most_history)) opens.bounded.asked
+    let asks = passed-ask s.config x c.in-Ask.receiver c.in-Ask.sid c.in-Ask.amount c.in-Ask.heard opens.unrefused in
+    asked-fits s x.entries c.in-Ask.sid c.bytes-bytes.result (omega (arith, asks.most, c.bytes-bytes.ensures))
+    (omega (arith, opens.short, most_history)) (rw opens.is_after.flows opens.sound.bounded.asked)
 
 pub ask-requires-clause-asks : goal.ask-requires-clause-asks
 ask-requires-clause-asks c =
     let s = c.args.self.now in
-    let h = c.requires.open.0 in
+    let x = c.requires.open.0 in
     let opens = rw c.in-Ask.is at c.requires.open.1 in
-    let asks = passed-ask s.config (situation_of s.config h) c.in-Ask.receiver c.in-Ask.sid c.in-Ask.amount c.in-Ask.heard opens.unrefused in
-    takes-after s h c.in-Ask.sid opens.is_after asks.known asks.asks
+    let asks = passed-ask s.config x c.in-Ask.receiver c.in-Ask.sid c.in-Ask.amount c.in-Ask.heard opens.unrefused in
+    takes-after s x c.in-Ask.sid opens.is_after asks.known asks.asks
 
 pub returns-in-Ask-clause-answered : goal.returns-in-Ask-clause-answered
-returns-in-Ask-clause-answered c = λ h opens.
+returns-in-Ask-clause-answered c = λ x opens.
     let s = c.args.self.now in
     let ask = c.in-Ask in
     rw c.in-Ask.is (record {
       config = refl;
       answers = refl;
       encodable = tt;
-      is_after = λ stamp. IsStateAfter-asked s h opens.is_after stamp ask.receiver ask.sid ask.amount ask.heard
+      is_after = IsStateAfter-asked s x opens.is_after ask.receiver ask.sid ask.amount ask.heard
           c.ask.new.self (c.ask.ensures
           ∙ ap (λ (n : ℕ). record s.book {
             flows = changed ask.sid

@@ -5,4 +5,4 @@ pub plan_frame-requires : goal.plan_frame-requires
 plan_frame-requires c = (c.args.now, c.requires.0, c.requires.1)
 
 pub returns-clause-fits : goal.returns-clause-fits
-returns-clause-fits c = λ h opens. c.in_ok-frame.ensures.fits c.args.now h opens
+returns-clause-fits c = λ x opens. c.in_ok-frame.ensures.fits c.args.now x opens

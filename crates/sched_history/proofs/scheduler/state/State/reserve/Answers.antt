@@ -1,7 +1,6 @@
 -- A Reserve is kept behind the others.
 use Rattle.std.proofs.Common.{length, refl, ap, arith}
 use Rattle.minislots.proofs.Bounds.{bounds_of}
-use Rattle.sched_history.specs.Situation.{situation_of}
 use Rattle.sched_history.proofs.steps.Passed.{passed-reserve}
 use Rattle.sched_history.proofs.state.Moves.{IsStateAfter-reserved}
 use Rattle.sched_history.proofs.scheduler.state.State.reserve.Goals as goal
@@ -12,7 +11,7 @@ overflow_cast-slots c =
     let opens = c.requires.1 in
     omega (
       arith,
-      (passed-reserve s.config (situation_of s.config c.requires.0) c.args.usage c.args.slots opens.unrefused).within,
+      (passed-reserve s.config c.requires.0 c.args.usage c.args.slots opens.unrefused).within,
       (bounds_of s.config opens.is_after.lawful).frame_most,
     )
 
@@ -22,16 +21,16 @@ add-requires c =
     let opens = c.requires.1 in
     omega (
       arith,
-      (passed-reserve s.config (situation_of s.config c.requires.0) c.args.usage c.args.slots opens.unrefused).room,
+      (passed-reserve s.config c.requires.0 c.args.usage c.args.slots opens.unrefused).room,
       ap (λ rs. length rs) opens.is_after.reserves,
     )
 
 pub returns : goal.returns
-returns c = λ h opens.
+returns c = λ x opens.
     let s = c.args.self.now in
     rw (c.add.ensures) (record {
       config = refl;
       answers = refl;
       encodable = tt;
-      is_after = λ stamp. IsStateAfter-reserved s h opens.is_after stamp c.args.usage c.args.slots;
+      is_after = IsStateAfter-reserved s x opens.is_after c.args.usage c.args.slots;
     })

@@ -4,11 +4,11 @@ use Rattle.sched_history.proofs.state.Moves.{IsStateAfter-skipped}
 use Rattle.sched_history.proofs.scheduler.state.State.skip.Goals as goal
 
 pub returns : goal.returns
-returns c = λ h opens.
+returns c = λ x opens.
     let next = c.start_after-self.result in
     record {
       config = refl;
       answers = (next, c.start_after-self.ensures, refl);
       encodable = tt;
-      is_after = λ stamp. IsStateAfter-skipped c.args.self.now h opens.is_after stamp c.args.now next;
+      is_after = IsStateAfter-skipped c.args.self.now x opens.is_after c.args.now next;
     }
