@@ -1,6 +1,5 @@
 -- The history with the entry is counted.
 use Rattle.std.proofs.Common.{List, ℕ, Bool, [], ◌∷◌, ◌++◌, take, drop, refl, sym, ◌∙◌, subst, arith}
-use Rattle.std.specs.Vec.{with_items}
 use Rattle.std.proofs.lemmas.List.{with_items_is, length_push}
 use Rattle.map_build.proofs.EachAfterLaws.{EachAfter-push}
 use Rattle.sched_calls.specs.declared.reply.Entry.{Entry}

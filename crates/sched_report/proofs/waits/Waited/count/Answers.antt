@@ -1,5 +1,5 @@
 -- Each of the two is counted.
-use Rattle.std.proofs.Common.{◌≡◌, ℕ, List, sym, subst}
+use Rattle.std.proofs.Common.{ℕ, List, sym, subst}
 use Rattle.flow_book.specs.declared.standing.Standing.TheVariants.{UnderReservation, AtCeiling}
 use Rattle.sched_report.specs.Waits.{MayCountWaits}
 use Rattle.sched_report.proofs.waits.Waited.count.Goals as goal
