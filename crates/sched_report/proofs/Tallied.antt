@@ -72,7 +72,7 @@ module _ (h : List Entry) (t : Tally) (o : Outlook) (left : ℕ) (e : Entry) (ma
     heard = at_whole (λ es. TellsProgress t.config es heard)
         (subst (TellsProgress t.config h) (sym told) may.outlook.heard);
     open_before = at_whole (λ es. o.reserves ≡ length (reserves_of t.config es)) may.outlook.reserves;
-    open_after = at_whole (λ es. left ≡ length (reserves_of t.config (es ++ e ∷ []))) may.left;
+    open_after = at_whole (λ es. left ≡ length (reserves_of t.config (es ++ e ∷ []))) may.open_after;
   }
 
   -- the lives go on with it
@@ -119,5 +119,5 @@ may_count k h t o left e same is step short outlook after = record {
   step = subst (λ (c : Config). IsStep c h e.call e.reply) (sym same) step;
   short = short;
   outlook = subst (λ (c : Config). IsOutlook c h e.reply o) (sym same) outlook;
-  left = subst (λ (c : Config). left ≡ length (reserves_of c (h ++ e ∷ []))) (sym same) after;
+  open_after = subst (λ (c : Config). left ≡ length (reserves_of c (h ++ e ∷ []))) (sym same) after;
 }

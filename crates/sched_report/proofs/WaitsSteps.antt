@@ -16,8 +16,7 @@ use Rattle.sched_calls.specs.declared.reply.Reply.{Reply}
 use Rattle.sched_calls.specs.declared.reply.Reply.TheVariants as replies
 use Rattle.sched_calls.specs.declared.reply.Entry.{Entry}
 use Rattle.sched_history.specs.Facts.{waits_by}
-use Rattle.sched_calls.specs.declared.reply.TheConstants.{MAX_WHOLE_HISTORY}
-use Rattle.sched_history.specs.History.{IsStep, IsLegal}
+use Rattle.sched_history.specs.History.{IsLegal}
 use Rattle.sched_history.specs.Life.{flows_of}
 use Rattle.sched_history.specs.Settling.{settles_after}
 use Rattle.sched_history.specs.Time.{next_after}
@@ -27,7 +26,6 @@ use Rattle.sched_report.specs.declared.lives.Opening.{Opening}
 use Rattle.sched_report.specs.Lives.{PastLife, opening_by, life_begun, lives_in, with_entry}
 use Rattle.sched_report.specs.declared.waits.Waited.{Waited}
 use Rattle.sched_report.specs.Told.{IsLifeOf}
-use Rattle.sched_report.specs.ToldLives.{AreLives}
 use Rattle.sched_report.specs.WaitsIn.{times, waits_in}
 use Rattle.sched_report.specs.Waits.{counted_by, HasCounted, AreWaits, MayCountWaits, AreWaited}
 use Rattle.sched_report.proofs.LifeTold.{some_end}

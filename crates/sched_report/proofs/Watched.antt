@@ -1,23 +1,19 @@
 -- What a MAP tells of the Reserves that lapse before it, and of itself.
-use Rattle.std.proofs.Common.{◌≡◌, ℕ, ◌+◌, ◌<◌, ◌≤◌, Bool, List, [], ◌∷◌, ◌++◌, length, take, drop, None}
-use Rattle.std.proofs.Common.{refl, sym, ap, subst, arith}
-use Rattle.std.proofs.lemmas.List.{take-append-drop}
+use Rattle.std.proofs.Common.{◌≡◌, ℕ, ◌+◌, ◌≤◌, Bool, List, ◌++◌, length, None}
+use Rattle.std.proofs.Common.{refl, ap, subst, arith}
 use Rattle.minislots.specs.declared.config.Config.{Config}
-use Rattle.minislots.specs.Config.{IsLawful}
 use Rattle.map_build.specs.declared.met.Met.{Met}
 use Rattle.sched_calls.specs.declared.frame_map.FrameMap.{FrameMap}
 use Rattle.sched_calls.specs.declared.reply.Reply.{Reply}
 use Rattle.sched_calls.specs.declared.reply.Reply.TheVariants as replies
 use Rattle.sched_calls.specs.declared.reply.Entry.{Entry}
-use Rattle.sched_calls.specs.declared.reply.TheConstants.{MAX_WHOLE_HISTORY}
-use Rattle.sched_history.specs.History.{map_by, IsStep, IsLegal, IsNextMap}
-use Rattle.sched_history.specs.Reserves.{met_after, reserves_of, lapses_by}
+use Rattle.sched_history.specs.History.{map_by, IsStep, IsNextMap}
+use Rattle.sched_history.specs.Reserves.{met_after, lapses_by}
 use Rattle.sched_history.proofs.reserves.GoodReserves.{reserves_of-few}
 use Rattle.sched_history.proofs.reserves.Lapsed.{reserves-built}
 use Rattle.sched_history.proofs.steps.LegalHistories.{IsNextMap-from_step}
-use Rattle.frame_picture.specs.Frames.{TellsUnsolicited}
 use Rattle.sched_report.specs.declared.extremes.Extremes.{Extremes}
-use Rattle.sched_report.specs.Extremes.{AreExtremes, TellsProgress, IsWatched}
+use Rattle.sched_report.specs.Extremes.{IsWatched}
 
 -- a reply that has no MAP
 pub no_map : (reply : Reply) → ((m : FrameMap) → reply ≡ replies.Built m → ⊥) → map_by reply ≡ None

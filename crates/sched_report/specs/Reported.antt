@@ -48,7 +48,7 @@ pub record MayCount (h : List Entry) (t : Tally) (o : Outlook) (left : ℕ) (e :
   pub step : IsStep t.config h e.call e.reply
   pub short : length h < MAX_WHOLE_HISTORY
   pub outlook : IsOutlook t.config h e.reply o
-  pub left : left ≡ length (reserves_of t.config (h ++ e ∷ []))
+  pub open_after : left ≡ length (reserves_of t.config (h ++ e ∷ []))
 
 -- what is counted is of the history that the auditor took
 pub record IsReport (past : Past) (t : Tally) : Type 0 where

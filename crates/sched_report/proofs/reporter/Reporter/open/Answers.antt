@@ -1,5 +1,5 @@
 -- Nothing is taken yet.
-use Rattle.std.proofs.Common.{◌≡◌, ◌∙◌, sym, ap, subst}
+use Rattle.std.proofs.Common.{sym, subst}
 use Rattle.sched_history.specs.Machine.{Past}
 use Rattle.sched_report.specs.Reported.{IsReport}
 use Rattle.sched_report.proofs.reporter.Reporter.open.Goals as goal

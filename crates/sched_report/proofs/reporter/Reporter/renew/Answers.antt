@@ -1,5 +1,5 @@
 -- What is told begins behind all entries.
-use Rattle.std.proofs.Common.{◌≡◌, ◌∙◌}
+use Rattle.std.proofs.Common.{◌∙◌}
 use Rattle.sched_report.proofs.reporter.Reporter.renew.Goals as goal
 
 pub renew-requires : goal.renew-requires

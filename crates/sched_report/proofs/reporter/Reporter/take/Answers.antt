@@ -1,5 +1,5 @@
 -- An entry that is taken is counted.
-use Rattle.std.proofs.Common.{◌≡◌, ◌<◌, ◌∙◌, List, ◌∷◌, [], ◌++◌, length, inl, inr, sym, ap, subst}
+use Rattle.std.proofs.Common.{◌∙◌, length, inl, inr, sym, ap, subst}
 use Rattle.std.proofs.lemmas.Bool.{cases_lt}
 use Rattle.sched_calls.specs.declared.reply.TheConstants.{MAX_WHOLE_HISTORY}
 use Rattle.sched_history.specs.Machine.{Past}
