@@ -7,8 +7,8 @@ use Rattle.periodic.specs.Placement.{spots_in, starts_in, HasLawfulStarts, AreLa
 use Rattle.channel_states.specs.PossibleFlow.{placement_of, IsPossibleFlow}
 use Rattle.channel_states.specs.PossiblePlaces.{placed_in, MayStandTogether}
 use Rattle.channel_states.specs.Possible.{IsPossible}
-use Rattle.channel_states.proofs.Worked.{channel, voice, polling, voice_place, voice_at, polled, polled_place, in_two_batches}
-use Rattle.channel_states.proofs.Worked.{in_one_batch, state}
+use Rattle.channel_states.proofs.Worked.{channel, voice, polling, voice_place, voice_at, polled, polled_place}
+use Rattle.channel_states.proofs.Worked.{in_two_batches, in_one_batch, state}
 
 -- what holds of both frames of the cycle holds of each
 pub each-of-two : (P : ℕ → Type 0) → P 0 → P 1 → (k : ℕ) → k < 2 → P k

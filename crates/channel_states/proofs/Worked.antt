@@ -101,10 +101,11 @@ in_one_batch = record {
 abbrev pub header : Header
 header = record { ucd_count = 2; ranging_start = 0; ranging_end = 4; data_start = 3; data_end = 15 }
 
--- Reserves that wait
+-- a Reserve that waits
 abbrev pub older : ReserveState
 older = record { opportunity = record { usage = Station 9; slots = 4 }; maps = 3 }
 
+-- one behind it
 abbrev pub newer : ReserveState
 newer = record { opportunity = record { usage = Request 15873; slots = 36 }; maps = 0 }
 

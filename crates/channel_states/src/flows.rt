@@ -52,7 +52,8 @@ pub(crate) fn first_wrong_sid(
     flows: &[FlowState],
 ) -> Option<u16>
     requires { entries ≤ MAX_WHOLE_HISTORY }
-    ensures possible { IfNone result (AllByRecursion (IsPossibleFlow config.now entries next) flows.now) }
+    ensures possible { IfNone result
+        (AllByRecursion (IsPossibleFlow config.now entries next) flows.now) }
     ensures impossible { IfSome result
         (λ _. AllByRecursion (IsPossibleFlow config.now entries next) flows.now → ⊥) }
     ensures first { IfSome result

@@ -24,7 +24,8 @@ struct Taken {
 
 // Whether what the flows take of each frame of the cycle may stand together there.
 pub(crate) fn stand_beside(config: &Checked, flows: &[FlowState]) -> bool
-    requires { (entries next : ℕ) × AllByRecursion (IsPossibleFlow config.now entries next) flows.now }
+    requires { (entries next : ℕ)
+        × AllByRecursion (IsPossibleFlow config.now entries next) flows.now }
     ensures beside { result ≡ true → StandBeside config.now flows.now }
     ensures not { result ≡ false → StandBeside config.now flows.now → ⊥ }
     ensures lawful { IsLawful config.now }
@@ -104,8 +105,8 @@ impl Taken {
         ensures together { result ≡ true → MayStandTogether (taken_in self.new) }
         ensures added { result ≡ true
             → taken_in self.new ≡ taken_in self.old ++ map (spot_from flow.now slots) starts.now }
-        ensures not { result ≡ false
-            → MayStandTogether (taken_in self.old ++ map (spot_from flow.now slots) starts.now) → ⊥ }
+        ensures not { result ≡ false → MayStandTogether
+            (taken_in self.old ++ map (spot_from flow.now slots) starts.now) → ⊥ }
     {
         for start in starts {
             let spot = spot_from(flow, slots, *start);
