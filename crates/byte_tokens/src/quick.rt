@@ -13,6 +13,7 @@ ghost use Rattle.byte_tokens.specs.Left.{tokens_from, begins_at, closes_at, Ends
 ghost use Rattle.byte_tokens.specs.Listed.{number_tokens};
 ghost use Rattle.byte_tokens.specs.Spelled.{spelled_key, spelled_text};
 
+mod openings;
 mod runs;
 
 use super::between::{Before, behind_gap, behind_space, behind_value, ended_value};

@@ -15,7 +15,7 @@ ghost use Rattle.call_reading.specs.Made.{SaysMembers, MakesObject};
 use super::field::{Field, RangingField, known_field, other_field, read_name};
 use super::flow::flow_of;
 use super::found::{Found, Ranging, made, to_u8};
-use super::usual_call::{spaced_call, usual_call};
+use super::usual_call::{Close, Spaced, usual_call};
 use byte_tokens::Quick;
 use json_fields::{Plain, Stop};
 use sched_calls::Call;
@@ -268,9 +268,7 @@ fn read_any_call(alloc: Global, reader: &mut Quick<'_>, depth: usize) -> Result<
 fn read_other_call(alloc: Global, reader: &mut Quick<'_>, depth: usize) -> Result<Call, Stop>
     ensures { IfOk result (λ call. MakesObject depth reader.old reader.new call) }
 {
-    let mut attempt = reader.again();
-    if let Some(call) = spaced_call(&mut attempt) {
-        *reader = attempt;
+    if let Some(call) = usual_call::<Spaced>(reader) {
         return Ok(call);
     }
     let call = read_any_call(alloc, reader, depth)?;
@@ -289,9 +287,7 @@ pub fn read_quick_call(alloc: Global, reader: &mut Quick<'_>, depth: usize) -> R
     if depth == 0 {
         return Err(Stop::Unusual);
     }
-    let mut attempt = reader.again();
-    if let Some(call) = usual_call(&mut attempt) {
-        *reader = attempt;
+    if let Some(call) = usual_call::<Close>(reader) {
         return Ok(call);
     }
     let call = read_other_call(alloc, reader, depth - 1)?;

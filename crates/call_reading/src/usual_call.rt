@@ -1,6 +1,6 @@
 //! The commonest calls, where their members stand in the order in which they are written: that of their keys.
 
-ghost use Rattle.std.specs.Prelude.{◌≡◌, ◌∷◌, ℕ, List, codes, IsTrue, IfSome};
+ghost use Rattle.std.specs.Prelude.{◌≡◌, ◌∷◌, ℕ, List, codes, IsTrue, IfSome, MatchOption};
 ghost use Rattle.json.specs.Token.{begin_object, key, string};
 ghost use Rattle.json.specs.Print.{escape};
 ghost use Rattle.serde_json.specs.Data.{number, unsigned};
@@ -15,13 +15,102 @@ use super::found::{Found, ask, build, heard, remove, status};
 use byte_tokens::Quick;
 use sched_calls::Call;
 
-/// What stands between the tokens of a call.
-#[derive(Clone, Copy)]
-pub(crate) enum Spacing {
-    /// Nothing.
-    Close,
-    /// Mostly a space behind each colon and each comma.
-    Spaced,
+/// How the tokens of a call stand.
+pub(crate) trait Spacing {
+    /// Takes the brace that opens a call, its name under its key, and the key behind it, if they are next and spelled
+    /// so: together as `run` where nothing stands between them.
+    fn open_named(reader: &mut Quick<'_>, run: &str, name: &str, behind: &str) -> bool
+        ensures { IsTrue result → (content : List ℕ) → (field : Field) → escape content ≡ content
+            → run.now ≡ 123 ∷ spelled_run (codes "call") content (key_of field)
+            → name.now ≡ spelled_text content → behind.now ≡ spelled_key (key_of field)
+            → reader.old ≡ begin_object ∷ key (codes "call") ∷ string content ∷ key (key_of field) ∷ reader.new };
+
+    /// Takes the brace that opens a request, and the key of its bytes, if they are next.
+    fn open_bytes(reader: &mut Quick<'_>) -> bool
+        ensures { IsTrue result → reader.old ≡ begin_object ∷ key (codes "bytes") ∷ reader.new };
+
+    /// Takes the name of a request under its key, and the key behind it, if they are next.
+    fn take_ask(reader: &mut Quick<'_>) -> bool
+        ensures { IsTrue result
+            → reader.old ≡ key (codes "call") ∷ string (codes "ask") ∷ key (codes "heard") ∷ reader.new };
+
+    /// The byte by which the usual calls are told apart: the first letter of the name, where it stands first, and else
+    /// a digit. No clause says so: what is taken after it is right whatever it answers.
+    fn telling_byte(reader: &Quick<'_>) -> u8;
+}
+
+/// Nothing stands between the tokens.
+pub(crate) struct Close;
+
+impl Spacing for Close {
+    #[inline(always)]
+    fn open_named(reader: &mut Quick<'_>, run: &str, _name: &str, _behind: &str) -> bool {
+        reader.open_with_run(run)
+    }
+
+    #[inline(always)]
+    fn open_bytes(reader: &mut Quick<'_>) -> bool {
+        reader.open_with_key("{\"bytes\":")
+    }
+
+    #[inline(always)]
+    fn take_ask(reader: &mut Quick<'_>) -> bool {
+        reader.take_spelled_run("\"call\":\"ask\",\"heard\":")
+    }
+
+    #[inline(always)]
+    fn telling_byte(reader: &Quick<'_>) -> u8 {
+        reader.byte_behind(9)
+    }
+}
+
+/// Spaces stand between the tokens, mostly one behind each colon and each comma.
+pub(crate) struct Spaced;
+
+impl Spacing for Spaced {
+    #[inline(always)]
+    fn open_named(reader: &mut Quick<'_>, _run: &str, name: &str, behind: &str) -> bool {
+        if !reader.open_object() {
+            return false;
+        }
+        take_named(reader, name, behind)
+    }
+
+    #[inline(always)]
+    fn open_bytes(reader: &mut Quick<'_>) -> bool {
+        if !reader.open_object() {
+            return false;
+        }
+        reader.take_spelled_key("\"bytes\":")
+    }
+
+    #[inline(always)]
+    fn take_ask(reader: &mut Quick<'_>) -> bool {
+        take_named(reader, "\"ask\"", "\"heard\":")
+    }
+
+    #[inline(always)]
+    fn telling_byte(reader: &Quick<'_>) -> u8 {
+        reader.byte_behind(10)
+    }
+}
+
+// Takes the name of a call under its key, and the key behind it, token by token, if they are next and spelled so.
+fn take_named(reader: &mut Quick<'_>, name: &str, behind: &str) -> bool
+    ensures { IsTrue result → (content : List ℕ) → (field : Field) → escape content ≡ content
+        → name.now ≡ spelled_text content → behind.now ≡ spelled_key (key_of field)
+        → reader.old ≡ key (codes "call") ∷ string content ∷ key (key_of field) ∷ reader.new }
+{
+    if !reader.take_spelled_key("\"call\":") {
+        return false;
+    }
+    if !reader.take_spelled_text(name) {
+        return false;
+    }
+    if !reader.take_spelled_key(behind) {
+        return false;
+    }
+    true
 }
 
 // The number of the field whose key is spelled so, if it is next.
@@ -52,87 +141,13 @@ fn minislots_under(reader: &mut Quick<'_>, spelled: &str, field: Field) -> Optio
     Some(number)
 }
 
-// Takes the name of a call under its key, and the key behind it, token by token, if they are next and spelled so.
-#[inline(always)]
-fn take_spaced(reader: &mut Quick<'_>, name: &str, behind: &str) -> bool
-    ensures { IsTrue result → (content : List ℕ) → (field : Field) → escape content ≡ content
-        → name.now ≡ spelled_text content → behind.now ≡ spelled_key (key_of field)
-        → reader.old ≡ key (codes "call") ∷ string content ∷ key (key_of field) ∷ reader.new }
-{
-    if !reader.take_spelled_key("\"call\":") {
-        return false;
-    }
-    if !reader.take_spelled_text(name) {
-        return false;
-    }
-    if !reader.take_spelled_key(behind) {
-        return false;
-    }
-    true
-}
-
-// Takes the brace that opens a call, its name under its key, and the key behind it, if they are next and spelled so:
-// together as `run` where nothing stands between them.
-#[inline(always)]
-fn open_named(
-    reader: &mut Quick<'_>,
-    spacing: Spacing,
-    run: &str,
-    name: &str,
-    behind: &str,
-) -> bool
-    ensures { IsTrue result → (content : List ℕ) → (field : Field) → escape content ≡ content
-        → run.now ≡ 123 ∷ spelled_run (codes "call") content (key_of field)
-        → name.now ≡ spelled_text content → behind.now ≡ spelled_key (key_of field)
-        → reader.old ≡ begin_object ∷ key (codes "call") ∷ string content ∷ key (key_of field) ∷ reader.new }
-{
-    match spacing {
-        Spacing::Close => reader.open_with_run(run),
-        Spacing::Spaced => {
-            if !reader.open_object() {
-                return false;
-            }
-            take_spaced(reader, name, behind)
-        }
-    }
-}
-
-// Takes the brace that opens a request, and the key of its bytes, if they are next.
-#[inline(always)]
-fn open_bytes(reader: &mut Quick<'_>, spacing: Spacing) -> bool
-    ensures { IsTrue result → reader.old ≡ begin_object ∷ key (codes "bytes") ∷ reader.new }
-{
-    match spacing {
-        Spacing::Close => reader.open_with_key("{\"bytes\":"),
-        Spacing::Spaced => {
-            if !reader.open_object() {
-                return false;
-            }
-            reader.take_spelled_key("\"bytes\":")
-        }
-    }
-}
-
-// Takes the name of a request under its key, and the key behind it, if they are next.
-#[inline(always)]
-fn take_ask(reader: &mut Quick<'_>, spacing: Spacing) -> bool
-    ensures { IsTrue result
-        → reader.old ≡ key (codes "call") ∷ string (codes "ask") ∷ key (codes "heard") ∷ reader.new }
-{
-    match spacing {
-        Spacing::Close => reader.take_spelled_run("\"call\":\"ask\",\"heard\":"),
-        Spacing::Spaced => take_spaced(reader, "\"ask\"", "\"heard\":"),
-    }
-}
-
 // A question for a flow's bytes.
 #[inline(always)]
-fn usual_status(reader: &mut Quick<'_>, spacing: Spacing) -> Option<Call>
+fn usual_status<S: Spacing>(reader: &mut Quick<'_>) -> Option<Call>
     ensures { IfSome result (λ call. (depth : ℕ) → MakesObject depth reader.old reader.new call) }
 {
-    if !open_named(
+    if !S::open_named(
         reader,
-        spacing,
         "{\"call\":\"status\",\"sid\":",
         "\"status\"",
         "\"sid\":",
@@ -151,12 +166,11 @@ fn usual_status(reader: &mut Quick<'_>, spacing: Spacing) -> Option<Call>
 
 // A removal.
 #[inline(always)]
-fn usual_remove(reader: &mut Quick<'_>, spacing: Spacing) -> Option<Call>
+fn usual_remove<S: Spacing>(reader: &mut Quick<'_>) -> Option<Call>
     ensures { IfSome result (λ call. (depth : ℕ) → MakesObject depth reader.old reader.new call) }
 {
-    if !open_named(
+    if !S::open_named(
         reader,
-        spacing,
         "{\"call\":\"remove\",\"sid\":",
         "\"remove\"",
         "\"sid\":",
@@ -175,12 +189,11 @@ fn usual_remove(reader: &mut Quick<'_>, spacing: Spacing) -> Option<Call>
 
 // A receiver's progress.
 #[inline(always)]
-fn usual_heard(reader: &mut Quick<'_>, spacing: Spacing) -> Option<Call>
+fn usual_heard<S: Spacing>(reader: &mut Quick<'_>) -> Option<Call>
     ensures { IfSome result (λ call. (depth : ℕ) → MakesObject depth reader.old reader.new call) }
 {
-    if !open_named(
+    if !S::open_named(
         reader,
-        spacing,
         "{\"call\":\"heard\",\"receiver\":",
         "\"heard\"",
         "\"receiver\":",
@@ -201,12 +214,11 @@ fn usual_heard(reader: &mut Quick<'_>, spacing: Spacing) -> Option<Call>
 
 // A build.
 #[inline(always)]
-fn usual_build(reader: &mut Quick<'_>, spacing: Spacing) -> Option<Call>
+fn usual_build<S: Spacing>(reader: &mut Quick<'_>) -> Option<Call>
     ensures { IfSome result (λ call. (depth : ℕ) → MakesObject depth reader.old reader.new call) }
 {
-    if !open_named(
+    if !S::open_named(
         reader,
-        spacing,
         "{\"call\":\"build\",\"now\":",
         "\"build\"",
         "\"now\":",
@@ -225,14 +237,14 @@ fn usual_build(reader: &mut Quick<'_>, spacing: Spacing) -> Option<Call>
 
 // A request.
 #[inline(always)]
-fn usual_ask(reader: &mut Quick<'_>, spacing: Spacing) -> Option<Call>
+fn usual_ask<S: Spacing>(reader: &mut Quick<'_>) -> Option<Call>
     ensures { IfSome result (λ call. (depth : ℕ) → MakesObject depth reader.old reader.new call) }
 {
-    if !open_bytes(reader, spacing) {
+    if !S::open_bytes(reader) {
         return None;
     }
     let bytes = reader.take_short_number()?;
-    if !take_ask(reader, spacing) {
+    if !S::take_ask(reader) {
         return None;
     }
     let at = reader.take_wide_number()?;
@@ -250,44 +262,22 @@ fn usual_ask(reader: &mut Quick<'_>, spacing: Spacing) -> Option<Call>
     Some(call)
 }
 
-// The byte by which these calls are told apart: the first letter of the name, where it stands first, and else a space
-// or a digit.
+/// The call of these that comes next, its tokens standing so. There is none, and the reader stays, where the call is
+/// another one, or has its members in another order. The reader that is tried is one of its own, in which nothing is
+/// kept between two tokens.
 #[inline(always)]
-fn telling_byte(reader: &Quick<'_>, spacing: Spacing) -> u8 {
-    match spacing {
-        Spacing::Close => reader.byte_behind(9),
-        Spacing::Spaced => reader.byte_behind(10),
-    }
-}
-
-// The call of these that comes next. There is none where the call is another one, has its members in another order, or
-// has something else between its tokens.
-#[inline(always)]
-fn call_spaced_so(reader: &mut Quick<'_>, spacing: Spacing) -> Option<Call>
-    ensures { IfSome result (λ call. (depth : ℕ) → MakesObject depth reader.old reader.new call) }
+pub(crate) fn usual_call<S: Spacing>(reader: &mut Quick<'_>) -> Option<Call>
+    ensures { MatchOption result (reader.new ≡ reader.old)
+        (λ call. (depth : ℕ) → MakesObject depth reader.old reader.new call) }
 {
-    match telling_byte(reader, spacing) {
-        b's' => usual_status(reader, spacing),
-        b'h' => usual_heard(reader, spacing),
-        b'b' => usual_build(reader, spacing),
-        b'r' => usual_remove(reader, spacing),
-        _ => usual_ask(reader, spacing),
-    }
-}
-
-/// The call of these that comes next, where nothing stands between its tokens. There is none where the call is another
-/// one, or has its members in another order.
-#[inline(always)]
-pub(crate) fn usual_call(reader: &mut Quick<'_>) -> Option<Call>
-    ensures { IfSome result (λ call. (depth : ℕ) → MakesObject depth reader.old reader.new call) }
-{
-    call_spaced_so(reader, Spacing::Close)
-}
-
-/// The same, where spaces stand between its tokens. Compiled apart, since mostly none do.
-#[inline(never)]
-pub(crate) fn spaced_call(reader: &mut Quick<'_>) -> Option<Call>
-    ensures { IfSome result (λ call. (depth : ℕ) → MakesObject depth reader.old reader.new call) }
-{
-    call_spaced_so(reader, Spacing::Spaced)
+    let mut attempt = reader.again();
+    let call = match S::telling_byte(&attempt) {
+        b's' => usual_status::<S>(&mut attempt),
+        b'h' => usual_heard::<S>(&mut attempt),
+        b'b' => usual_build::<S>(&mut attempt),
+        b'r' => usual_remove::<S>(&mut attempt),
+        _ => usual_ask::<S>(&mut attempt),
+    }?;
+    *reader = attempt;
+    Some(call)
 }

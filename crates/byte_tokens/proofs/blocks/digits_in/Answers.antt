@@ -1,5 +1,5 @@
 -- The lanes before the first that is no digit are digits.
-use Rattle.std.proofs.Common.{◌≡◌, ◌<◌, ℕ, map, get_or, ap, sym, ◌∙◌, subst, arith}
+use Rattle.std.proofs.Common.{◌<◌, map, sym, ◌∙◌, subst, arith}
 use Rattle.std.proofs.lemmas.Simd.{length-chunk}
 use lib.Count.{count_trailing_zeros}
 use lib.Lanes.{mask_l, chunk}

@@ -9,7 +9,7 @@ use Rattle.call_reading.proofs.usual_call.usual_ask.Goals as goal
 
 pub returns : goal.returns
 unfolding seen_amount seen_ask
-returns c = λ depth.
+returns g c = λ depth.
     let ts = c.args.reader.now in
     let r0 = c.open_bytes.new.reader in
     let r1 = c.take_short_number.new.self in

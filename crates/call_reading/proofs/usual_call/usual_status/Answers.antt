@@ -11,7 +11,7 @@ use Rattle.call_reading.proofs.usual_call.usual_status.Goals as goal
 
 pub returns : goal.returns
 unfolding seen_status
-returns c = λ depth.
+returns g c = λ depth.
     let ts = c.args.reader.now in
     let r1 = c.open_named.new.reader in
     let r2 = c.take_short_number.new.self in

@@ -3,9 +3,9 @@ use Rattle.std.proofs.Common.{codes}
 use Rattle.call_reading.specs.declared.field.Field.TheVariants.{Name}
 use Rattle.call_reading.specs.Field.{key_of}
 use Rattle.call_reading.proofs.Fields.{plain_key}
-use Rattle.call_reading.proofs.usual_call.open_named.Goals as goal
+use Rattle.call_reading.proofs.usual_call.CloseSpacing.open_named.Goals as goal
 
-pub returns-in-Close : goal.returns-in-Close
-returns-in-Close c taken content field plain run name behind =
+pub returns : goal.returns
+returns c taken content field plain run name behind =
     (rw taken at c.open_with_run.ensures) (codes "call") content (key_of field) (plain_key Name) plain (plain_key field)
     run

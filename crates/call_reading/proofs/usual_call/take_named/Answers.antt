@@ -4,7 +4,7 @@ use Rattle.json.specs.Token.{key, string}
 use Rattle.call_reading.specs.declared.field.Field.TheVariants.{Name}
 use Rattle.call_reading.specs.Field.{key_of}
 use Rattle.call_reading.proofs.Fields.{plain_key}
-use Rattle.call_reading.proofs.usual_call.take_spaced.Goals as goal
+use Rattle.call_reading.proofs.usual_call.take_named.Goals as goal
 
 pub returns : goal.returns
 returns c _ content field plain name behind =
