@@ -6,4 +6,5 @@ pub mod FlowText
 mod StateReadable
 mod StateFound
 mod StateRead
+pub mod RowsReading
 pub mod RowsState
