@@ -1,13 +1,10 @@
 -- The JSON values of configurations and calls are read again in their texts: their numbers fit 64 bits, their names are
 -- ASCII, and their keys are in order.
-use Rattle.std.proofs.Common.{◌≡◌, ℕ, ◌<◌, ◌≤◌, ◌^◌, List, [], ◌∷◌, map, IsUtf8, refl}
-use Rattle.std.proofs.Common.{◌==◌, true, inl, inr, arith}
+use Rattle.std.proofs.Common.{◌≡◌, ℕ, ◌<◌, ◌^◌, List, refl}
+use Rattle.std.proofs.Common.{true, inl, inr}
 use Rattle.std.specs.Prelude.{codes}
-use Rattle.std.specs.List.{AllByRecursion}
-use Rattle.std.proofs.lemmas.Bool.{cases_Bool}
-use Rattle.json.proofs.Printed.Utf8.{are_ascii, IsUtf8-are_ascii}
-use Rattle.serde_json.specs.Data.{Members, object, member, string}
-use Rattle.serde_json.specs.View.{items_of}
+use Rattle.json.proofs.Printed.Utf8.{are_ascii}
+use Rattle.serde_json.specs.Data.{Members, object, member}
 use Rattle.minislots.specs.declared.bursts.Bursts.{Bursts}
 use Rattle.minislots.specs.declared.bursts.Bursts.TheVariants.{Uniform, Described}
 use Rattle.minislots.specs.declared.bursts.Descriptors.{Descriptors}
@@ -16,117 +13,20 @@ use Rattle.minislots.specs.declared.config.Config.{Config}
 use Rattle.sched_calls.specs.declared.amount.Amount.{Amount}
 use Rattle.sched_calls.specs.declared.amount.Amount.TheVariants.{Bytes, Slots}
 use Rattle.sched_calls.specs.declared.spec.FlowSpec.{FlowSpec}
-use Rattle.sched_calls.specs.declared.spec.FlowSpec.TheVariants.{Unsolicited, Polled, BestEffort}
 use Rattle.sched_calls.specs.declared.call.Call.{Call}
 use Rattle.sched_calls.specs.declared.opportunity.Usage.TheVariants.{Initial, InitialTo, Station}
 use Rattle.sched_calls.specs.declared.opportunity.Usage.TheVariants.{Request, Quiet, DataTo}
 use Rattle.sched_calls.specs.declared.call.Call.TheVariants.{Admit, Remove, Ask, Heard, Build, Skip, Status}
 use Rattle.sched_calls.specs.declared.call.Call.TheVariants.{Reserve, Header, Replace, Change, Rest, Wake}
-use Rattle.history_writing.specs.Json.{count, optional_member, flow_data, request_data, parameters_data}
+use Rattle.history_writing.specs.Json.{count, request_data, parameters_data}
 use Rattle.history_writing.specs.Json.{reserve_for, reserve_to, call_data}
 use Rattle.history_writing.specs.HistoryText.{profile_data, descriptors_data, front_members, back_members}
 use Rattle.history_writing.specs.HistoryText.{members_with, config_data}
 use Rattle.history_writing.specs.Fits.{FlowFits, AmountFits, CallFits, ProfileFits, BurstsFit, ConfigFits}
-use Rattle.laws.proofs.Readable.{IsReadable, AreReadable, MembersReadable}
-use Rattle.laws.proofs.Standing.{always, unless, sorted, in_order}
+use Rattle.state_text.proofs.FlowText.{of_byte, of_half, of_word, name, optional_readable, flow_readable}
+use Rattle.state_text.proofs.Readable.{IsReadable, MembersReadable}
+use Rattle.laws.proofs.Standing.{in_order}
 use Rattle.laws.proofs.ReadBack.{unsolicited_stands}
-
--- narrower numbers
-pub of_byte : (n : ℕ) → n < 2 ^ 8 → n < 2 ^ 64
-of_byte n h = omega (arith, h)
-
--- a number of 16 bits fits 64
-pub of_half : (n : ℕ) → n < 2 ^ 16 → n < 2 ^ 64
-of_half n h = omega (arith, h)
-
--- a number of 32 bits fits 64
-pub of_word : (n : ℕ) → n < 2 ^ 32 → n < 2 ^ 64
-of_word n h = omega (arith, h)
-
--- a name is UTF-8
-pub name : (s : List ℕ) → are_ascii s ≡ true → IsUtf8 s
-name s small = IsUtf8-are_ascii s small
-
--- numbers that fit
-pub counts_readable : (limit : ℕ) (ns : List ℕ) → limit ≤ 2 ^ 64 → AllByRecursion (λ n. n < limit) ns
-    → AreReadable (items_of (map count ns))
-counts_readable limit [] most fits = tt
-counts_readable limit (n ∷ ns) most fits =
-    let here = fits.0 in
-    (omega (arith, here, most), counts_readable limit ns most fits.1)
-
--- a number that may be left out
-optional_readable : (missing : ℕ) (key : List ℕ) (n : ℕ) (behind : Members) → are_ascii key ≡ true → n < 2 ^ 64
-    → MembersReadable behind → MembersReadable (optional_member missing key n behind)
-optional_readable missing key n behind ascii fits readable = elim (cases_Bool (n == missing)) [
-  | inl same ↦ rw same readable
-  | inr other ↦ rw other (ascii, fits, readable)
-]
-
-flow_readable : (spec : FlowSpec) → FlowFits spec → IsReadable (flow_data spec)
-unfolding flow_data
-flow_readable (Unsolicited size interval jitter grants) fits = (
-  refl,
-  (
-    refl,
-    of_byte grants fits.3,
-    (
-      refl,
-      of_word interval fits.1,
-      (
-        refl,
-        of_word jitter fits.2,
-        (refl, name (codes "unsolicited") refl, (refl, of_word size fits.0, tt)),
-      ),
-    ),
-  ),
-)
-flow_readable (Polled interval jitter rate burst peak) fits = (
-  sorted (always (codes "burst") (count burst) ∷ always (codes "interval_us") (count interval)
-      ∷ always (codes "jitter_us") (count jitter) ∷ always (codes "kind") (string (codes "polled"))
-      ∷ unless 0 (codes "peak") peak ∷ always (codes "rate") (count rate) ∷ []) refl,
-  (
-    refl,
-    of_word burst fits.3,
-    (
-      refl,
-      of_word interval fits.0,
-      (
-        refl,
-        of_word jitter fits.1,
-        (
-          refl,
-          name (codes "polled") refl,
-          optional_readable 0 (codes "peak") peak _ refl (of_word peak fits.4) (refl, of_word rate fits.2, tt),
-        ),
-      ),
-    ),
-  ),
-)
-flow_readable (BestEffort priority rate burst peak reserved reserved-burst) fits = (
-  sorted (always (codes "burst") (count burst) ∷ always (codes "kind") (string (codes "best_effort"))
-      ∷ unless 0 (codes "peak") peak ∷ always (codes "priority") (count priority)
-      ∷ always (codes "rate") (count rate) ∷ unless 0 (codes "reserved") reserved
-      ∷ unless 0 (codes "reserved_burst") reserved-burst ∷ []) refl,
-  (
-    refl,
-    of_word burst fits.2,
-    (
-      refl,
-      name (codes "best_effort") refl,
-      optional_readable 0 (codes "peak") peak _ refl (of_word peak fits.3) (
-        refl,
-        of_byte priority fits.0,
-        (
-          refl,
-          of_word rate fits.1,
-          optional_readable 0 (codes "reserved") reserved _ refl (of_word reserved fits.4)
-              (optional_readable 0 (codes "reserved_burst") reserved-burst _ refl (of_word reserved-burst fits.5) tt),
-        ),
-      ),
-    ),
-  ),
-)
 
 -- a request is read again in its text
 request_readable : (called : List ℕ) (receiver sid : ℕ) (amount : Amount) (heard : ℕ) → are_ascii called ≡ true

@@ -23,7 +23,8 @@ use Rattle.history_reading.specs.Replies.{changed_reply, map_at, map_reply, skip
 use Rattle.history_reading.specs.Replies.{refused_reply, reply_of, entry_of}
 use Rattle.history_reading.specs.Recorded.{entries_of, history_of}
 use Rattle.history_writing.specs.Fits.{ConfigFits, MapFits, ValueFits, ReplyFits, EntryFits}
-use Rattle.laws.proofs.ReadBack.{below-fits, call_of-data, config_of-data}
+use Rattle.state_text.proofs.FlowText.{below-fits}
+use Rattle.laws.proofs.ReadBack.{call_of-data, config_of-data}
 use Rattle.history_reading.proofs.Payload.{map_of-spelling}
 use Rattle.laws.proofs.Spelled.{IsBytes-spelling}
 use Rattle.laws.proofs.RefusalNumbers.{refusal_with-number, number_fits}

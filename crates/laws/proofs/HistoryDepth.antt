@@ -1,5 +1,5 @@
 -- The JSON value of a history nests no deeper than five levels.
-use Rattle.std.proofs.Common.{◌≡◌, ℕ, ◌≤◌, max, List, [], ◌∷◌, map, Option, Some, None, refl, ap, arith}
+use Rattle.std.proofs.Common.{◌≡◌, ℕ, ◌≤◌, List, [], ◌∷◌, map, Option, Some, None, refl, arith}
 use Rattle.std.proofs.Common.{◌==◌, inl, inr}
 use Rattle.std.specs.Prelude.{codes}
 use Rattle.std.proofs.lemmas.Bool.{cases_Bool}
@@ -11,8 +11,6 @@ use Rattle.minislots.specs.declared.bursts.Descriptors.{Descriptors}
 use Rattle.minislots.specs.declared.bursts.Profile.{Profile}
 use Rattle.minislots.specs.declared.config.Config.{Config}
 use Rattle.sched_calls.specs.declared.amount.Amount.TheVariants.{Bytes, Slots}
-use Rattle.sched_calls.specs.declared.spec.FlowSpec.{FlowSpec}
-use Rattle.sched_calls.specs.declared.spec.FlowSpec.TheVariants.{Unsolicited, Polled, BestEffort}
 use Rattle.sched_calls.specs.declared.call.Call.{Call}
 use Rattle.sched_calls.specs.declared.opportunity.Usage.TheVariants.{Initial, InitialTo, Station}
 use Rattle.sched_calls.specs.declared.opportunity.Usage.TheVariants.{Request, Quiet, DataTo}
@@ -22,51 +20,14 @@ use Rattle.sched_calls.specs.declared.reply.Reply.{Reply}
 use Rattle.sched_calls.specs.declared.reply.Reply.TheVariants.{Admitted, Removed, Taken, Noted, Built, Skipped, Flow}
 use Rattle.sched_calls.specs.declared.reply.Reply.TheVariants.{Refused, Reserved, Changed}
 use Rattle.sched_calls.specs.declared.reply.Entry.{Entry}
-use Rattle.history_writing.specs.Json.{count, counts, flow_data, call_data, plain_data, placed_data, map_data}
+use Rattle.history_writing.specs.Json.{count, call_data, plain_data, placed_data, map_data}
 use Rattle.history_writing.specs.Json.{refused_data}
 use Rattle.history_writing.specs.Json.{reply_data}
 use Rattle.sched_lines.specs.Line.{refusal_number, refusal_value}
 use Rattle.history_writing.specs.HistoryText.{profile_data, descriptors_data, members_with, config_data, entry_data}
 use Rattle.history_writing.specs.HistoryText.{front_members, back_members, entries_data, history_data}
+use Rattle.state_text.proofs.FlowText.{depth-counts, depth-flow}
 use Rattle.laws.proofs.ReadBack.{unsolicited_stands}
-
-depth-numbers : (ns : List ℕ) → items_depth (items_of (map count ns)) ≡ 0
-depth-numbers [] = refl
-depth-numbers (n ∷ ns) = ap (max 0) (depth-numbers ns)
-
-depth-counts : (ns : List ℕ) → depth (counts ns) ≡ 1
-unfolding counts
-depth-counts ns = let e = depth-numbers ns in omega (arith, e)
-
-depth-flow : (spec : FlowSpec) → depth (flow_data spec) ≡ 1
-unfolding flow_data
-depth-flow (Unsolicited size interval jitter grants) = refl
-depth-flow (Polled interval jitter rate burst peak) = elim (cases_Bool (peak == 0)) [
-  | inl none ↦ rw none refl
-  | inr stands ↦ rw stands refl
-]
-depth-flow (BestEffort priority rate burst peak reserved reserved-burst) = elim (cases_Bool (peak == 0)) [
-  | inl a ↦ elim (cases_Bool (reserved == 0)) [
-    | inl b ↦ elim (cases_Bool (reserved-burst == 0)) [
-      | inl d ↦ rw (a, b, d) refl
-      | inr d ↦ rw (a, b, d) refl
-    ]
-    | inr b ↦ elim (cases_Bool (reserved-burst == 0)) [
-      | inl d ↦ rw (a, b, d) refl
-      | inr d ↦ rw (a, b, d) refl
-    ]
-  ]
-  | inr a ↦ elim (cases_Bool (reserved == 0)) [
-    | inl b ↦ elim (cases_Bool (reserved-burst == 0)) [
-      | inl d ↦ rw (a, b, d) refl
-      | inr d ↦ rw (a, b, d) refl
-    ]
-    | inr b ↦ elim (cases_Bool (reserved-burst == 0)) [
-      | inl d ↦ rw (a, b, d) refl
-      | inr d ↦ rw (a, b, d) refl
-    ]
-  ]
-]
 
 depth-call : (call : Call) → depth (call_data call) ≤ 2
 unfolding call_data

@@ -25,9 +25,10 @@ use Rattle.history_writing.specs.Json.{reply_data}
 use Rattle.sched_lines.specs.Line.{refusal_number, refusal_value}
 use Rattle.history_writing.specs.HistoryText.{entry_data, entries_data, history_data}
 use Rattle.history_writing.specs.Fits.{ConfigFits, PlacementFits, MapFits, ValueFits, ReplyFits, EntryFits}
-use Rattle.laws.proofs.Readable.{IsReadable, AreReadable}
+use Rattle.state_text.proofs.Readable.{IsReadable, AreReadable}
 use Rattle.laws.proofs.RefusalNumbers.{number_fits}
-use Rattle.laws.proofs.CallReadable.{of_word, name, counts_readable, call_readable}
+use Rattle.state_text.proofs.FlowText.{of_word, name, counts_readable}
+use Rattle.laws.proofs.CallReadable.{call_readable}
 use Rattle.laws.proofs.CallReadable.{config_readable}
 
 -- digits in lower case are ASCII

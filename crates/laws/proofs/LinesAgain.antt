@@ -16,7 +16,7 @@ use Rattle.text_stream.specs.Lines.{IsWithinLine}
 use Rattle.history_writing.specs.Fits.{ConfigFits, EntryFits}
 use Rattle.history_writing.specs.HistoryText.{entry_data}
 use Rattle.history_reading.specs.Recorded.{entry_in}
-use Rattle.laws.proofs.Readable.{IsReadable, read-alone, IsUtf8-compact}
+use Rattle.state_text.proofs.Readable.{IsReadable, read-alone, IsUtf8-compact}
 use Rattle.laws.proofs.ReadBack.{config_of-data}
 use Rattle.laws.proofs.CallReadable.{config_readable}
 use Rattle.laws.proofs.HistoryAgain.{entry_of-data}

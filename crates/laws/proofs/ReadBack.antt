@@ -1,13 +1,13 @@
 -- A history is written as a script is read: what stands there of a configuration, a flow or a call stands for it again,
 -- and each configuration with its calls has a script.
-use Rattle.std.proofs.Common.{◌≡◌, ◌⊎◌, ℕ, ◌+◌, ◌<◌, ◌^◌, ◌==◌, true, List, [], ◌∷◌, map, None, Some, Ok, inl, inr}
-use Rattle.std.proofs.Common.{refl, sym, ap, ◌∙◌, arith}
-use Rattle.std.specs.Prelude.{codes, Option, option_and_then, if◌then◌else◌}
+use Rattle.std.proofs.Common.{◌≡◌, ◌⊎◌, ℕ, ◌+◌, ◌<◌, ◌^◌, true, List, [], ◌∷◌, map, None, Some, Ok, inl, inr}
+use Rattle.std.proofs.Common.{refl, sym, ap, arith}
+use Rattle.std.specs.Prelude.{codes}
 use Rattle.std.specs.List.{AllByRecursion}
-use Rattle.std.proofs.lemmas.Bool.{lt-ltb, cases_Bool}
+use Rattle.std.proofs.lemmas.Bool.{cases_Bool}
 use Rattle.std.proofs.lemmas.Bool.Decides.{nat_tests}
-use Rattle.serde_json.specs.Data.{Data, array, object, string, no_members, member}
-use Rattle.serde_json.specs.Find.{get, get_member}
+use Rattle.serde_json.specs.Data.{Data, array, object, no_members, member}
+use Rattle.serde_json.specs.Find.{get_member}
 use Rattle.serde_json.specs.View.{items_of}
 use Rattle.minislots.specs.declared.bursts.Bursts.{Bursts}
 use Rattle.minislots.specs.declared.bursts.Bursts.TheVariants.{Uniform, Described}
@@ -15,102 +15,24 @@ use Rattle.minislots.specs.declared.bursts.Descriptors.{Descriptors}
 use Rattle.minislots.specs.declared.bursts.Profile.{Profile}
 use Rattle.minislots.specs.declared.config.Config.{Config}
 use Rattle.sched_calls.specs.declared.amount.Amount.TheVariants.{Bytes, Slots}
-use Rattle.sched_calls.specs.declared.spec.FlowSpec.{FlowSpec}
-use Rattle.sched_calls.specs.declared.spec.FlowSpec.TheVariants.{Unsolicited, Polled, BestEffort}
 use Rattle.sched_calls.specs.declared.call.Call.{Call}
 use Rattle.sched_calls.specs.declared.opportunity.Usage.TheVariants.{Initial, InitialTo, Station}
 use Rattle.sched_calls.specs.declared.opportunity.Usage.TheVariants.{Request, Quiet, DataTo}
 use Rattle.sched_calls.specs.declared.call.Call.TheVariants.{Admit, Remove, Ask, Heard, Build, Skip, Status}
 use Rattle.sched_calls.specs.declared.call.Call.TheVariants.{Reserve, Header, Replace, Change, Rest, Wake}
-use Rattle.json_fields.specs.Fields.{below, number_at, u8_at, u16_at, u32_at, u64_at, text_at, slots_of, sizes_of}
+use Rattle.json_fields.specs.Fields.{number_at, u8_at, u16_at, u32_at, u64_at, text_at, slots_of, sizes_of}
 use Rattle.json_fields.specs.Fields.{counts_of, windows_of, u8_or, profile_of, profile_at, descriptors_of, uniform_of}
-use Rattle.json_fields.specs.Fields.{bursts_of, or_number, u32_or, limits_of, idles_of, config_of}
-use Rattle.call_reading.specs.Calls.{unsolicited_of, polled_of, best_effort_of, flow_of, admit_call, remove_call}
+use Rattle.json_fields.specs.Fields.{bursts_of, u32_or, limits_of, idles_of, config_of}
+use Rattle.call_reading.specs.Calls.{admit_call, remove_call}
 use Rattle.call_reading.specs.Calls.{amount_of, ask_call, heard_call, build_call, skip_call, status_call, usage_of}
 use Rattle.call_reading.specs.Calls.{reserve_call, header_call, replace_call, change_call, rest_call, wake_call, call_of}
 use Rattle.script_reading.specs.Script.{calls_of, script_of}
-use Rattle.history_writing.specs.Json.{count, flow_data, call_data}
+use Rattle.history_writing.specs.Json.{count, call_data}
 use Rattle.history_writing.specs.HistoryText.{is_same_profile, profile_data, unsolicited_member, descriptors_data}
 use Rattle.history_writing.specs.HistoryText.{members_with, config_data}
-use Rattle.history_writing.specs.Fits.{FlowFits, CallFits, ProfileFits, BurstsFit, ConfigFits}
-use Rattle.laws.proofs.Standing.{Part, always, unless, laid, found_in, found-laid, found_there, Has, has}
-
--- a number that fits
-pub below-fits : (limit n : ℕ) → n < limit → below limit n ≡ Some n
-below-fits limit n fits = rw (lt-ltb n limit fits) refl
-
--- what stands under the key of a number that may be left out
-abbrev or_none : ℕ → ℕ → Option Data
-or_none missing n = if n == missing then None else Some (count n)
-
--- such a number is read back: where it is left out it is the one of a missing member
-or_missing-data : (limit missing : ℕ) (key : List ℕ) (n : ℕ) (d : Data) → n < limit → get key d ≡ or_none missing n
-    → or_number missing (get key d) (option_and_then (λ n. below limit n) (number_at key d)) ≡ Some n
-unfolding number_at
-or_missing-data limit missing key n d fits is = elim (cases_Bool (n == missing)) [
-  | inl same ↦
-      let none : get key d ≡ None = is ∙ rw same refl in
-      let as_missing : missing ≡ n = grind (arith, nat_tests) in
-      rw none (ap Some as_missing)
-  | inr other ↦
-      let some : get key d ≡ Some (count n) = is ∙ rw other refl in
-      rw some (rw (below-fits limit n fits) refl)
-]
-
--- the members of a flow of best effort, by their places
-abbrev best_effort_parts : (priority rate burst peak reserved reserved-burst : ℕ) → List Part
-best_effort_parts priority rate burst peak reserved reserved-burst =
-    always (codes "burst") (count burst) ∷ always (codes "kind") (string (codes "best_effort"))
-    ∷ unless 0 (codes "peak") peak ∷ always (codes "priority") (count priority) ∷ always (codes "rate") (count rate)
-    ∷ unless 0 (codes "reserved") reserved ∷ unless 0 (codes "reserved_burst") reserved-burst ∷ []
-
--- a number of 32 bits that may be left out is read back from its place
-word_or-laid : (key : List ℕ) (n : ℕ) (ps : List Part) → n < 2 ^ 32 → found_in key ps ≡ or_none 0 n
-    → u32_or 0 key (object (laid ps)) ≡ Some n
-unfolding u32_or u32_at
-word_or-laid key n ps fits there =
-    or_missing-data (2 ^ 32) 0 key n (object (laid ps)) fits (found-laid key ps ∙ there)
-
--- a flow of best effort is read back
-best_effort_of-data : (priority rate burst peak reserved reserved-burst : ℕ)
-    → FlowFits (BestEffort priority rate burst peak reserved reserved-burst)
-    → best_effort_of (object (laid (best_effort_parts priority rate burst peak reserved reserved-burst)))
-    ≡ Some (BestEffort priority rate burst peak reserved reserved-burst)
-unfolding best_effort_of u8_at u32_at number_at
-best_effort_of-data priority rate burst peak reserved reserved-burst fits =
-    let ps = best_effort_parts priority rate burst peak reserved reserved-burst in
-    let first = found-laid (codes "priority") ps in
-    let second = found-laid (codes "rate") ps in
-    rw (
-      first,
-      second,
-      word_or-laid (codes "peak") peak ps fits.3 refl,
-      word_or-laid (codes "reserved") reserved ps fits.4 refl,
-      word_or-laid (codes "reserved_burst") reserved-burst ps fits.5 refl,
-    ) (rw (below-fits (2 ^ 8) priority fits.0) (
-    rw (below-fits (2 ^ 32) rate fits.1) (rw (below-fits (2 ^ 32) burst fits.2) refl)))
-
--- a flow is read back
-pub flow_of-data : (spec : FlowSpec) → FlowFits spec → flow_of (flow_data spec) ≡ Some spec
-unfolding flow_of unsolicited_of polled_of best_effort_of u8_at u8_or u32_at u32_or number_at text_at flow_data
-flow_of-data (Unsolicited size interval jitter grants) fits =
-    rw (below-fits (2 ^ 32) size fits.0) (
-    rw (below-fits (2 ^ 32) interval fits.1) (rw (below-fits (2 ^ 32) jitter fits.2)
-    (rw (below-fits (2 ^ 8) grants fits.3) refl)))
-flow_of-data (Polled interval jitter rate burst peak) fits = elim (cases_Bool (peak == 0)) [
-  | inl none ↦
-      let as_missing : 0 ≡ peak = grind (arith, nat_tests) in
-      rw none (rw (below-fits (2 ^ 32) interval fits.0) (
-      rw (below-fits (2 ^ 32) jitter fits.1) (rw (below-fits (2 ^ 32) rate fits.2)
-      (rw (below-fits (2 ^ 32) burst fits.3)
-      (ap (λ (n : ℕ). Some (Polled interval jitter rate burst n)) as_missing)))))
-  | inr stands ↦
-      rw stands (rw (below-fits (2 ^ 32) interval fits.0) (
-      rw (below-fits (2 ^ 32) jitter fits.1) (rw (below-fits (2 ^ 32) rate fits.2)
-      (rw (below-fits (2 ^ 32) burst fits.3) (rw (below-fits (2 ^ 32) peak fits.4) refl)))))
-]
-flow_of-data (BestEffort priority rate burst peak reserved reserved-burst) fits =
-    best_effort_of-data priority rate burst peak reserved reserved-burst fits
+use Rattle.history_writing.specs.Fits.{CallFits, ProfileFits, BurstsFit, ConfigFits}
+use Rattle.state_text.proofs.FlowText.{below-fits, or_none, or_missing-data, flow_of-data}
+use Rattle.laws.proofs.Standing.{found_there, Has, has}
 
 -- a call is read back
 pub call_of-data : (call : Call) → CallFits call → call_of (call_data call) ≡ Some call

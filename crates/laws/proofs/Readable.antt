@@ -1,150 +1,18 @@
--- A value of whole numbers that fit 64 bits, and of keys in order, is read again in its compact text.
-use Rattle.std.proofs.Common.{◌≡◌, ℕ, suc, ◌<◌, ◌≤◌, ◌^◌, max, List, [], ◌∷◌, ◌++◌, Bool, true, false, Some}
-use Rattle.std.proofs.Common.{option_map, option_and_then, decimal, IsUtf8, refl, sym, ap, ap₂, ◌∙◌, append-nil}
-use Rattle.std.proofs.Common.{arith}
-use Rattle.std.proofs.lemmas.Fmt.{IsAscii-decimal}
-use Rattle.std.proofs.lemmas.Str.{IsUtf8-append, IsUtf8-nil, IsUtf8-from_ascii}
-use Rattle.json.specs.Json as json
-use Rattle.json.specs.Tree as trees
-use Rattle.json.specs.Tree.{json_tokens, HasNumbers, ItemsHaveNumbers, MembersHaveNumbers}
+-- The text of a value of whole numbers that fit 64 bits, and of keys in order, is read again with a newline behind it.
+use Rattle.std.proofs.Common.{◌≡◌, ◌≤◌, List, ℕ, [], ◌∷◌, ◌++◌, Some, IsUtf8, refl, sym, ap, ◌∙◌}
+use Rattle.std.proofs.lemmas.Str.{IsUtf8-append}
+use Rattle.json.specs.Tree.{json_tokens}
 use Rattle.json.specs.Lex.{tokens}
-use Rattle.json.specs.Print.{quoted}
-use Rattle.json.proofs.Printed.Decimals.{IsNumber-decimal}
-use Rattle.json.proofs.Printed.Tokens.{tokens-print}
-use Rattle.json.proofs.Printed.Trees.{value-json_tokens, ArePrintable-json_tokens}
-use Rattle.json.proofs.Printed.Utf8.{are_ascii, IsUtf8-are_ascii, IsUtf8-quoted}
-use Rattle.serde_json.specs.Data.{Num, unsigned, negative, float, Data, null, boolean, number, string, array, object}
-use Rattle.serde_json.specs.Data.{Items, no_items, item, Members, no_members, member, put, depth, items_depth}
-use Rattle.serde_json.specs.Data.{members_depth}
-use Rattle.serde_json.specs.Read.{of_json, of_items, of_members, read, max_depth}
-use Rattle.serde_json.specs.Written.{outline, items_outline, members_outline, comma_if, compact_text, items_text}
-use Rattle.serde_json.specs.Written.{members_text}
-use Rattle.serde_json.proofs.Numbers.{number_of-decimal}
+use Rattle.json.proofs.Printed.Trees.{ArePrintable-json_tokens}
+use Rattle.json.proofs.Printed.Utf8.{IsUtf8-are_ascii}
+use Rattle.serde_json.specs.Data.{Data, depth}
+use Rattle.serde_json.specs.Read.{read, max_depth}
+use Rattle.serde_json.specs.Written.{outline, compact_text}
 use Rattle.serde_json.proofs.Texts.{print-outline}
+use Rattle.state_text.proofs.Readable.{IsReadable, read-tokens, has_numbers, IsUtf8-compact}
 use Rattle.laws.proofs.EndedText.{tokens-ended}
 
--- the members, put in one after the other
-abbrev pub put_each : Members → Members → Members
-put_each no_members found = found
-put_each (member k d ms) found = put_each ms (put k d found)
-
--- a whole number of 64 bits
-abbrev pub FitsWord : Num → Type 0
-FitsWord (unsigned n) = n < 2 ^ 64
-FitsWord (negative z) = ⊥
-FitsWord (float x) = ⊥
-
--- numbers fit, texts are UTF-8, and keys are in order
-abbrev mutual
-  -- the same of one value
-  pub IsReadable : Data → Type 0
-  IsReadable null = Unit {0}
-  IsReadable (boolean b) = Unit {0}
-  IsReadable (number n) = FitsWord n
-  IsReadable (string s) = IsUtf8 s
-  IsReadable (array ds) = AreReadable ds
-  IsReadable (object ms) = (put_each ms no_members ≡ ms) × MembersReadable ms
-
-  -- the same of each item
-  pub AreReadable : Items → Type 0
-  AreReadable no_items = Unit {0}
-  AreReadable (item d ds) = IsReadable d × AreReadable ds
-
-  -- the same of each member
-  pub MembersReadable : Members → Type 0
-  MembersReadable no_members = Unit {0}
-  MembersReadable (member k d ms) = (are_ascii k ≡ true) × IsReadable d × MembersReadable ms
-
--- ---- the value of the outline
-
-some_number : (n : Num) → FitsWord n → of_json (outline (number n)) ≡ Some (number n)
-some_number (unsigned n) h = ap (option_map number) (number_of-decimal n h)
-some_number (negative z) h = absurd h
-some_number (float x) h = absurd h
-
-mutual
-  of_json-outline : (d : Data) → IsReadable d → of_json (outline d) ≡ Some d
-  of_json-outline null h = refl
-  of_json-outline (boolean b) h = refl
-  of_json-outline (number n) h = some_number n h
-  of_json-outline (string s) h = refl
-  of_json-outline (array ds) h = ap (option_map array) (of_items-outline ds h)
-  of_json-outline (object ms) h =
-      ap (option_map object) (of_members-outline ms no_members h.1) ∙ ap (λ found. Some (object found)) h.0
-
-  of_items-outline : (ds : Items) → AreReadable ds → of_items (items_outline ds) ≡ Some ds
-  of_items-outline no_items h = refl
-  of_items-outline (item d ds) h =
-      ap (option_and_then (λ e. option_map (item e) (of_items (items_outline ds)))) (of_json-outline d h.0)
-      ∙ ap (option_map (item d)) (of_items-outline ds h.1)
-
-  of_members-outline : (ms found : Members) → MembersReadable ms
-      → of_members (members_outline ms) found ≡ Some (put_each ms found)
-  of_members-outline no_members found h = refl
-  of_members-outline (member k d ms) found h =
-      ap (option_and_then (λ e. of_members (members_outline ms) (put k e found))) (of_json-outline d h.1)
-      ∙ of_members-outline ms (put k d found) h.2
-
--- ---- its numbers and its depth
-
-word_has_number : (n : Num) → FitsWord n → HasNumbers (outline (number n))
-word_has_number (unsigned n) h = IsNumber-decimal n h
-word_has_number (negative z) h = absurd h
-word_has_number (float x) h = absurd h
-
-mutual
-  has_numbers : (d : Data) → IsReadable d → HasNumbers (outline d)
-  has_numbers null h = tt
-  has_numbers (boolean b) h = tt
-  has_numbers (number n) h = word_has_number n h
-  has_numbers (string s) h = tt
-  has_numbers (array ds) h = items_have_numbers ds h
-  has_numbers (object ms) h = members_have_numbers ms h.1
-
-  items_have_numbers : (ds : Items) → AreReadable ds → ItemsHaveNumbers (items_outline ds)
-  items_have_numbers no_items h = tt
-  items_have_numbers (item d ds) h = (has_numbers d h.0, items_have_numbers ds h.1)
-
-  members_have_numbers : (ms : Members) → MembersReadable ms → MembersHaveNumbers (members_outline ms)
-  members_have_numbers no_members h = tt
-  members_have_numbers (member k d ms) h = (has_numbers d h.1, members_have_numbers ms h.2)
-
-mutual
-  depth-outline : (d : Data) → trees.depth (outline d) ≡ depth d
-  depth-outline null = refl
-  depth-outline (boolean b) = refl
-  depth-outline (number n) = refl
-  depth-outline (string s) = refl
-  depth-outline (array ds) = ap suc (items_depth-outline ds)
-  depth-outline (object ms) = ap suc (members_depth-outline ms)
-
-  items_depth-outline : (ds : Items) → trees.items_depth (items_outline ds) ≡ items_depth ds
-  items_depth-outline no_items = refl
-  items_depth-outline (item d ds) = ap₂ max (depth-outline d) (items_depth-outline ds)
-
-  members_depth-outline : (ms : Members) → trees.members_depth (members_outline ms) ≡ members_depth ms
-  members_depth-outline no_members = refl
-  members_depth-outline (member k d ms) = ap₂ max (depth-outline d) (members_depth-outline ms)
-
--- a text with the tokens of the value is read as the value
-read-tokens : (d : Data) → IsReadable d → depth d ≤ max_depth → (text : List ℕ)
-    → tokens text ≡ json_tokens (outline d) → read text ≡ Some d
-read-tokens d h shallow text are =
-    let ts = json_tokens (outline d) in
-    let deep = depth-outline d in
-    ap (λ o. option_and_then of_json (option_and_then (λ p. json.if_last p.0 p.1) o))
-    (ap (json.value max_depth) (are ∙ sym (append-nil ts))
-    ∙ value-json_tokens (outline d) max_depth [] (omega (arith, deep, shallow)))
-    ∙ of_json-outline d h
-
--- the text alone is read as the value
-pub read-alone : (d : Data) → IsReadable d → depth d ≤ max_depth → read (compact_text d) ≡ Some d
-read-alone d h shallow =
-    let ts = json_tokens (outline d) in
-    read-tokens d h shallow (compact_text d) (ap tokens (sym (print-outline d))
-    ∙ tokens-print ts (ArePrintable-json_tokens (outline d) (has_numbers d h)))
-
--- and so is the text with a newline
+-- it is read as the value
 pub read-compact : (d : Data) → IsReadable d → depth d ≤ max_depth → read (compact_text d ++ 10 ∷ []) ≡ Some d
 read-compact d h shallow =
     let ts = json_tokens (outline d) in
@@ -152,46 +20,6 @@ read-compact d h shallow =
     (ap (λ (text : List ℕ). tokens (text ++ 10 ∷ [])) (sym (print-outline d))
     ∙ tokens-ended ts (ArePrintable-json_tokens (outline d) (has_numbers d h)))
 
--- ---- its text is UTF-8
-
-IsUtf8-word : (n : Num) → FitsWord n → IsUtf8 (compact_text (number n))
-IsUtf8-word (unsigned n) h = IsUtf8-from_ascii (decimal n) (IsAscii-decimal n h)
-IsUtf8-word (negative z) h = absurd h
-IsUtf8-word (float x) h = absurd h
-
-IsUtf8-comma : (later : Bool) → IsUtf8 (comma_if later)
-IsUtf8-comma true = IsUtf8-are_ascii (44 ∷ []) refl
-IsUtf8-comma false = IsUtf8-nil
-
-IsUtf8-one : (x : ℕ) (text : List ℕ) → are_ascii (x ∷ []) ≡ true → IsUtf8 text → IsUtf8 (x ∷ text)
-IsUtf8-one x text small h = IsUtf8-append (x ∷ []) text (IsUtf8-are_ascii (x ∷ []) small) h
-
-mutual
-  -- the text of readable data is UTF-8
-  pub IsUtf8-compact : (d : Data) → IsReadable d → IsUtf8 (compact_text d)
-  IsUtf8-compact null h = IsUtf8-are_ascii (compact_text null) refl
-  IsUtf8-compact (boolean true) h = IsUtf8-are_ascii (compact_text (boolean true)) refl
-  IsUtf8-compact (boolean false) h = IsUtf8-are_ascii (compact_text (boolean false)) refl
-  IsUtf8-compact (number n) h = IsUtf8-word n h
-  IsUtf8-compact (string s) h = IsUtf8-quoted s h
-  IsUtf8-compact (array ds) h = IsUtf8-one 91 (items_text false ds) refl (IsUtf8-items false ds h)
-  IsUtf8-compact (object ms) h = IsUtf8-one 123 (members_text false ms) refl (IsUtf8-members false ms h.1)
-
-  IsUtf8-items : (later : Bool) (ds : Items) → AreReadable ds → IsUtf8 (items_text later ds)
-  IsUtf8-items later no_items h = IsUtf8-are_ascii (93 ∷ []) refl
-  IsUtf8-items later (item d ds) h =
-      IsUtf8-append (comma_if later) (compact_text d ++ items_text true ds) (IsUtf8-comma later)
-      (IsUtf8-append (compact_text d) (items_text true ds) (IsUtf8-compact d h.0) (IsUtf8-items true ds h.1))
-
-  IsUtf8-members : (later : Bool) (ms : Members) → MembersReadable ms → IsUtf8 (members_text later ms)
-  IsUtf8-members later no_members h = IsUtf8-are_ascii (125 ∷ []) refl
-  IsUtf8-members later (member k d ms) h =
-      let rest = compact_text d ++ members_text true ms in
-      IsUtf8-append (comma_if later) (quoted k ++ 58 ∷ rest) (IsUtf8-comma later)
-      (IsUtf8-append (quoted k) (58 ∷ rest) (IsUtf8-quoted k (IsUtf8-are_ascii k h.0))
-      (IsUtf8-one 58 rest refl
-      (IsUtf8-append (compact_text d) (members_text true ms) (IsUtf8-compact d h.1) (IsUtf8-members true ms h.2))))
-
--- and so is that text with a newline
+-- and it is UTF-8
 pub IsUtf8-ended : (d : Data) → IsReadable d → IsUtf8 (compact_text d ++ 10 ∷ [])
 IsUtf8-ended d h = IsUtf8-append (compact_text d) (10 ∷ []) (IsUtf8-compact d h) (IsUtf8-are_ascii (10 ∷ []) refl)

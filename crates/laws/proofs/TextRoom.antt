@@ -6,7 +6,7 @@ use Rattle.json.specs.Print.{escape_letter, escape_byte, escape, quoted}
 use Rattle.serde_json.specs.Data.{Num, unsigned, negative, float, Data, null, boolean, number, string, array, object}
 use Rattle.serde_json.specs.Data.{Items, no_items, item, Members, no_members, member}
 use Rattle.serde_json.specs.Written.{comma_if, compact_text, items_text, members_text}
-use Rattle.laws.proofs.Readable.{IsReadable, AreReadable, MembersReadable}
+use Rattle.state_text.proofs.Readable.{IsReadable, AreReadable, MembersReadable}
 
 -- the room for a text: six bytes for each of its bytes, and its quotes
 abbrev quoted_room : List ℕ → ℕ

@@ -26,11 +26,11 @@ pub below-fits : (limit n : ℕ) → n < limit → below limit n ≡ Some n
 below-fits limit n fits = rw (lt-ltb n limit fits) refl
 
 -- what stands under the key of a number that may be left out
-abbrev or_none : ℕ → ℕ → Option Data
+abbrev pub or_none : ℕ → ℕ → Option Data
 or_none missing n = if n == missing then None else Some (count n)
 
 -- such a number is read back: where it is left out it is the one of a missing member
-or_missing-data : (limit missing : ℕ) (key : List ℕ) (n : ℕ) (d : Data) → n < limit → get key d ≡ or_none missing n
+pub or_missing-data : (limit missing : ℕ) (key : List ℕ) (n : ℕ) (d : Data) → n < limit → get key d ≡ or_none missing n
     → or_number missing (get key d) (option_and_then (λ n. below limit n) (number_at key d)) ≡ Some n
 unfolding number_at
 or_missing-data limit missing key n d fits is = elim (cases_Bool (n == missing)) [

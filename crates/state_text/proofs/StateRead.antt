@@ -74,7 +74,7 @@ module _ (d : Data) where
         → (Some found ≡ Some s) ↔ (d ≡ state_data s)
     value_of_it is_value s fits = (
       λ (same : Some found ≡ Some s).
-        let is : found ≡ s = cc in
-        is_value ∙ ap state_data is,
+          let is : found ≡ s = cc in
+          is_value ∙ ap state_data is,
       λ is. ap (λ x. Some x) (one_state s fits is),
     )

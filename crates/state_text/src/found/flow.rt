@@ -49,11 +49,7 @@ fn place_in<T: Tree>(alloc: Global, value: &T) -> Result<Option<PlaceState>, All
 }
 
 // The place under this key, where there is one.
-fn place_at<T: Tree>(
-    alloc: Global,
-    value: &T,
-    key: &str,
-) -> Result<Option<PlaceState>, AllocError>
+fn place_at<T: Tree>(alloc: Global, value: &T, key: &str) -> Result<Option<PlaceState>, AllocError>
     ensures { IfOk result
         (λ place. place ≡ option_and_then place_in (get key.now (T.shown value.now))) }
 {

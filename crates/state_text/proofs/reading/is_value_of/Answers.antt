@@ -20,5 +20,5 @@ returns-clause-value c =
     let same = bytes_eq-Decides one other in (
       λ is. value_from_text d s one fits reads (same.0 (sym c.eq.ensures ∙ is) ∙ spelled),
       λ is. c.eq.ensures ∙ same.1 (text_from_value d s one fits (λ none. written ∙ c.in_ok-written.ensures.text none) is
-      ∙ sym spelled),
+          ∙ sym spelled),
     )
