@@ -5,6 +5,7 @@ pub mod Places
 pub mod Together
 pub mod Taking
 pub mod Sound
+pub mod Opening
 pub mod Worked
 pub mod RowsPossible
 pub mod RowsImpossible
