@@ -148,8 +148,8 @@ pub IsPlanAfter-build : (m : Machine) (p : PlannedBuild) → is_full m ≡ false
     → IsBuildAfter m.config (situation_of m.config m.history) p → IsPlanAfter m p
 IsPlanAfter-build m p room unrefused fits =
     let left : (stamp : Stamp)
-        → situation_of m.config (m.history ++ record { stamp = stamp; call = Build p.clock; reply = Built p.map } ∷ [])
-        ≡ after m.config (situation_of m.config m.history) (Build p.clock) (Built p.map) =
+    → situation_of m.config (m.history ++ record { stamp = stamp; call = Build p.clock; reply = Built p.map } ∷ [])
+    ≡ after m.config (situation_of m.config m.history) (Build p.clock) (Built p.map) =
     λ stamp. situation_of-push m.config m.history (record { stamp = stamp; call = Build p.clock; reply = Built p.map })
     (step-planned m p unrefused fits.lawful) in
     record {
