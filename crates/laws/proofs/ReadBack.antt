@@ -25,7 +25,8 @@ use Rattle.json_fields.specs.Fields.{counts_of, windows_of, u8_or, profile_of, p
 use Rattle.json_fields.specs.Fields.{bursts_of, u32_or, limits_of, idles_of, config_of}
 use Rattle.call_reading.specs.Calls.{admit_call, remove_call}
 use Rattle.call_reading.specs.Calls.{amount_of, ask_call, heard_call, build_call, skip_call, status_call, usage_of}
-use Rattle.call_reading.specs.Calls.{reserve_call, header_call, replace_call, change_call, rest_call, wake_call, call_of}
+use Rattle.call_reading.specs.Calls.{reserve_call, header_call, replace_call, change_call, rest_call, wake_call}
+use Rattle.call_reading.specs.Calls.{call_of}
 use Rattle.script_reading.specs.Script.{calls_of, script_of}
 use Rattle.history_writing.specs.Json.{count, call_data}
 use Rattle.history_writing.specs.HistoryText.{is_same_profile, profile_data, unsolicited_member, descriptors_data}

@@ -1,5 +1,5 @@
--- The text of a flow: what stands there stands for the flow again; its numbers fit 64 bits, its names are ASCII, and its
--- keys are in order.
+-- The text of a flow: what stands there stands for the flow again; its numbers fit 64 bits, its names are ASCII, and
+-- its keys are in order.
 use Rattle.std.proofs.Common.{◌≡◌, ℕ, ◌<◌, ◌≤◌, ◌^◌, ◌==◌, max, true, List, [], ◌∷◌, map, None, Some, inl, inr, IsUtf8}
 use Rattle.std.proofs.Common.{refl, ap, ◌∙◌, arith}
 use Rattle.std.specs.Prelude.{codes, Option, option_and_then, if◌then◌else◌}

@@ -1,5 +1,5 @@
--- The members of an object by their places, some of which may be left out: what stands under a key, and that they are in
--- the order of their keys.
+-- The members of an object by their places, some of which may be left out: what stands under a key, and that they are
+-- in the order of their keys.
 use Rattle.std.proofs.Common.{◌≡◌, ℕ, ◌==◌, Bool, true, false, ◌&&◌, List, [], ◌∷◌, Option, Some, None}
 use Rattle.std.proofs.Common.{Ordering, Less, Equal, Greater, inl, inr, refl, sym, ap, ◌∙◌}
 use Rattle.std.specs.Prelude.{if◌then◌else◌}

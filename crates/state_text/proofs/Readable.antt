@@ -1,5 +1,5 @@
--- A value of whole numbers that fit 64 bits, and of keys in order, is read again in its compact text, in which no object
--- has a key twice.
+-- A value of whole numbers that fit 64 bits, and of keys in order, is read again in its compact text, in which no
+-- object has a key twice.
 use Rattle.std.proofs.Common.{◌≡◌, ℕ, suc, ◌<◌, ◌≤◌, ◌^◌, max, List, [], ◌∷◌, ◌++◌, Bool, true, false, Some}
 use Rattle.std.proofs.Common.{option_map, option_and_then, decimal, IsUtf8, refl, sym, ap, ap₂, ◌∙◌, append-nil}
 use Rattle.std.proofs.Common.{◌||◌, subst, arith}

@@ -1,5 +1,5 @@
--- Worked texts that are read, and that are not: another order of keys with spaces; a key that stands twice, another one,
--- one that is missing.
+-- Worked texts that are read, and that are not: another order of keys with spaces; a key that stands twice, another
+-- one, one that is missing.
 use Rattle.std.proofs.Common.{◌≡◌, [], ◌∷◌, ◌++◌, codes, None, Some, refl, ap, arith}
 use Rattle.std.specs.Prelude.{option_and_then}
 use Rattle.serde_json.specs.Find.{get}

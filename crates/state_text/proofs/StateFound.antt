@@ -1,5 +1,6 @@
 -- The state that the JSON value of a state stands for is the state.
-use Rattle.std.proofs.Common.{◌≡◌, ℕ, ◌<◌, ◌^◌, ◌==◌, Bool, true, false, List, [], ◌∷◌, map, Option, None, Some, refl, arith}
+use Rattle.std.proofs.Common.{◌≡◌, ℕ, ◌<◌, ◌^◌, ◌==◌, Bool, true, false, List, [], ◌∷◌, map, Option, None, Some, refl}
+use Rattle.std.proofs.Common.{arith}
 use Rattle.std.specs.Prelude.{codes}
 use Rattle.std.specs.List.{AllByRecursion}
 use Rattle.serde_json.specs.Data.{Data, array}
@@ -7,7 +8,8 @@ use Rattle.serde_json.specs.Find.{get}
 use Rattle.serde_json.specs.View.{items_of}
 use Rattle.sched_calls.specs.declared.opportunity.Header.{Header}
 use Rattle.sched_calls.specs.declared.opportunity.Usage.{Usage}
-use Rattle.sched_calls.specs.declared.opportunity.Usage.TheVariants.{Initial, InitialTo, Station, Request, Quiet, DataTo}
+use Rattle.sched_calls.specs.declared.opportunity.Usage.TheVariants.{Initial, InitialTo, Station, Request, Quiet}
+use Rattle.sched_calls.specs.declared.opportunity.Usage.TheVariants.{DataTo}
 use Rattle.sched_calls.specs.declared.state.BatchState.{BatchState}
 use Rattle.sched_calls.specs.declared.state.ChannelState.{ChannelState}
 use Rattle.sched_calls.specs.declared.state.FlowState.{FlowState}

@@ -7,7 +7,8 @@ use Rattle.serde_json.specs.Data.{depth, items_depth}
 use Rattle.serde_json.specs.View.{items_of}
 use Rattle.sched_calls.specs.declared.opportunity.Header.{Header}
 use Rattle.sched_calls.specs.declared.opportunity.Usage.{Usage}
-use Rattle.sched_calls.specs.declared.opportunity.Usage.TheVariants.{Initial, InitialTo, Station, Request, Quiet, DataTo}
+use Rattle.sched_calls.specs.declared.opportunity.Usage.TheVariants.{Initial, InitialTo, Station, Request, Quiet}
+use Rattle.sched_calls.specs.declared.opportunity.Usage.TheVariants.{DataTo}
 use Rattle.sched_calls.specs.declared.state.BatchState.{BatchState}
 use Rattle.sched_calls.specs.declared.state.ChannelState.{ChannelState}
 use Rattle.sched_calls.specs.declared.state.FlowState.{FlowState}

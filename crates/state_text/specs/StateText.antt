@@ -9,7 +9,8 @@ use Rattle.serde_json.specs.View.{items_of}
 use Rattle.serde_json.specs.Written.{compact_text}
 use Rattle.sched_calls.specs.declared.opportunity.Header.{Header}
 use Rattle.sched_calls.specs.declared.opportunity.Usage.{Usage}
-use Rattle.sched_calls.specs.declared.opportunity.Usage.TheVariants.{Initial, InitialTo, Station, Request, Quiet, DataTo}
+use Rattle.sched_calls.specs.declared.opportunity.Usage.TheVariants.{Initial, InitialTo, Station, Request, Quiet}
+use Rattle.sched_calls.specs.declared.opportunity.Usage.TheVariants.{DataTo}
 use Rattle.sched_calls.specs.declared.state.BatchState.{BatchState}
 use Rattle.sched_calls.specs.declared.state.ChannelState.{ChannelState}
 use Rattle.sched_calls.specs.declared.state.FlowState.{FlowState}
@@ -111,8 +112,8 @@ state_data s = object (
 unfoldable pub state_text : ChannelState → List ℕ
 state_text s = compact_text (state_data s)
 
--- a text of a state: its value is the state's, whatever the order of its keys and the spaces between them, and no object
--- in it has a key twice
+-- a text of a state: its value is the state's, whatever the order of its keys and the spaces between them, and no
+-- object in it has a key twice
 pub record IsStateText (text : List ℕ) (s : ChannelState) : Type 0 where
   pub utf8 : IsUtf8 text
   pub value_is : read text ≡ Some (state_data s)

@@ -60,8 +60,8 @@ fn is_value_of(alloc: Global, value: &Value, state: &ChannelState) -> Result<boo
     Ok(written.as_bytes() == text.as_slice())
 }
 
-/// The state that a value is that of, where it is one: nothing else stands in it, nothing is missing, and all numbers are
-/// whole.
+/// The state that a value is that of, where it is one: nothing else stands in it, nothing is missing, and all numbers
+/// are whole.
 pub fn state_of_value(alloc: Global, value: &Value) -> Result<Option<ChannelState>, AllocError>
     requires { depth (view value.now) ≤ max_depth }
     ensures exact { IfOk result (λ found.

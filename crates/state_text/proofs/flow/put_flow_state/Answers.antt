@@ -36,4 +36,5 @@ returns-clause-ok c =
     (then_more at_key_3 at_put_placed last _ _ c.in_ok-put_placed.ensures.ok
     (then_more at_put_placed at_put_maybe_3 last _ _ c.in_ok-put_maybe-3.ensures.ok
     (then_more at_put_maybe_3 at_put_count_3 last _ _ c.in_ok-put_count-3.ensures.ok
-    (then_more at_put_count_3 at_put_maybe_4 last _ _ c.in_ok-put_maybe-4.ensures.ok ended)))))))))))))) c.end_object.ensures.ok
+    (then_more at_put_count_3 at_put_maybe_4 last _ _ c.in_ok-put_maybe-4.ensures.ok ended))))))))))))))
+    c.end_object.ensures.ok

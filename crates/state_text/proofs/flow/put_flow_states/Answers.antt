@@ -19,6 +19,6 @@ returns-clause-ok c =
 pub returns-clause-fits : goal.returns-clause-fits
 returns-clause-fits c =
     let at = c.loop-flow in
-    let all = subst (AllByRecursion FlowStateFits) (take_all at.flow-index c.args.flows.now c.loop-flow-test.false)
-    at.invariant.2 in
+    let are_all = take_all at.flow-index c.args.flows.now c.loop-flow-test.false in
+    let all = subst (AllByRecursion FlowStateFits) are_all at.invariant.2 in
     where_ok c.end_array.result (λ _. all) c.end_array.ensures.ok

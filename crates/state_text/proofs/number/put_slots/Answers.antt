@@ -11,5 +11,5 @@ unfolding counts
 returns-clause-ok c =
     let at = c.loop-slot in
     where_ok c.end_array.result (λ ended.
-    tokens-all count c.args.slots.now at.slot-index c.args.out.now.tokens (Token.key c.args.title.now ∷ []) at.out.tokens _
-    c.loop-slot-test.false at.invariant.0 ended) c.end_array.ensures.ok
+    tokens-all count c.args.slots.now at.slot-index c.args.out.now.tokens (Token.key c.args.title.now ∷ [])
+    at.out.tokens _ c.loop-slot-test.false at.invariant.0 ended) c.end_array.ensures.ok

@@ -19,6 +19,6 @@ returns-clause-ok c =
 pub returns-clause-fits : goal.returns-clause-fits
 returns-clause-fits c =
     let at = c.loop-reserve in
-    let all = subst (AllByRecursion ReserveFits) (take_all at.reserve-index c.args.reserves.now c.loop-reserve-test.false)
-    at.invariant.2 in
+    let are_all = take_all at.reserve-index c.args.reserves.now c.loop-reserve-test.false in
+    let all = subst (AllByRecursion ReserveFits) are_all at.invariant.2 in
     where_ok c.end_array.result (λ _. all) c.end_array.ensures.ok

@@ -36,4 +36,5 @@ returns-clause-ok c =
     (then_more at_put_count_3 at_put_slots last _ _ c.in_ok-put_slots.ensures.ok
     (then_more at_put_slots at_key_3 last _ _ c.in_ok-key-3.ensures.ok
     (then_more at_key_3 at_put_reserve_states last _ _ c.in_ok-put_reserve_states.ensures.ok
-    (then_more at_put_reserve_states at_put_count_4 last _ _ c.in_ok-put_count-4.ensures.ok ended))))))))))))) c.end_object.ensures.ok)
+    (then_more at_put_reserve_states at_put_count_4 last _ _ c.in_ok-put_count-4.ensures.ok ended)))))))))))))
+    c.end_object.ensures.ok)
