@@ -23,8 +23,7 @@ returns g c = λ depth.
     let a = seen_with (codes "call") (string (codes "build")) nothing in
     let b = seen_with (codes "now") (number (unsigned n)) a in
     let name = name_noted depth s (token.string (codes "build") ∷ left) left nothing (codes "build") refl refl in
-    let said = number_noted depth left r1 r2 a (codes "now") n refl taken.0 taken.1 in
-    (
+    let said = number_noted depth left r1 r2 a (codes "now") n refl taken.0 taken.1 in (
       s,
       first,
       call_ends depth s r2 c.take_last.new.reader b c.in_ok-call.call

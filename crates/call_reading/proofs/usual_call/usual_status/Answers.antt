@@ -23,8 +23,7 @@ returns g c = λ depth.
     let a = seen_with (codes "call") (string (codes "status")) nothing in
     let b = seen_with (codes "sid") (number (unsigned n)) a in
     let name = name_noted depth s (token.string (codes "status") ∷ left) left nothing (codes "status") refl refl in
-    let said = number_noted depth left r1 r2 a (codes "sid") n refl taken.0 taken.1 in
-    (
+    let said = number_noted depth left r1 r2 a (codes "sid") n refl taken.0 taken.1 in (
       s,
       first,
       call_ends depth s r2 c.take_last.new.reader b c.in_ok-call.call
