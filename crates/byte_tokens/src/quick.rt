@@ -13,6 +13,7 @@ ghost use Rattle.byte_tokens.specs.Left.{tokens_from, begins_at, closes_at, Ends
 ghost use Rattle.byte_tokens.specs.Listed.{number_tokens};
 ghost use Rattle.byte_tokens.specs.Spelled.{spelled_key, spelled_text};
 
+mod close;
 mod openings;
 mod runs;
 
@@ -21,6 +22,7 @@ use super::hexadecimal::hex_at;
 use super::listed::numbers_at;
 use super::numbers::{long_number_at, number_at, wide_number_at};
 use super::spelled::{byte_at, quoted, quoted_word_at, stands_at};
+pub use close::Width;
 use std::alloc::Global;
 use std::marker::Model;
 

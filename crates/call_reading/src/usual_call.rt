@@ -1,7 +1,9 @@
 //! The commonest calls, where their members stand in the order in which they are written: that of their keys.
 
-ghost use Rattle.std.specs.Prelude.{◌≡◌, ◌∷◌, ℕ, List, codes, IsTrue, IfSome, MatchOption};
-ghost use Rattle.json.specs.Token.{begin_object, key, string};
+ghost use Rattle.std.specs.Prelude.{◌≡◌, ◌∷◌, ◌^◌, ◌<◌, ℕ, List, codes, decimal, IsTrue, IfSome, MatchOption};
+ghost use Rattle.std.specs.Bool.{MatchBool};
+ghost use Rattle.json.specs.Token.{begin_object, end_object, key, string};
+ghost use Rattle.json.specs.Token as token;
 ghost use Rattle.json.specs.Print.{escape};
 ghost use Rattle.serde_json.specs.Data.{number, unsigned};
 ghost use Rattle.byte_tokens.specs.Spelled.{spelled_key, spelled_text, spelled_run};
@@ -12,7 +14,7 @@ ghost use Rattle.call_reading.specs.Made.{MakesObject};
 
 use super::field::Field;
 use super::found::{Found, ask, build, heard, remove, status};
-use byte_tokens::Quick;
+use byte_tokens::{Quick, Width};
 use sched_calls::Call;
 
 /// How the tokens of a call stand.
@@ -33,6 +35,21 @@ pub(crate) trait Spacing {
     fn take_ask(reader: &mut Quick<'_>) -> bool
         ensures { IsTrue result
             → reader.old ≡ key (codes "call") ∷ string (codes "ask") ∷ key (codes "heard") ∷ reader.new };
+
+    /// Takes the key that is spelled so, in quotes and with its colon, if it is next.
+    fn take_key(reader: &mut Quick<'_>, spelled: &str) -> bool
+        ensures { IsTrue result → (name : List ℕ) → escape name ≡ name
+            → spelled.now ≡ spelled_key name → reader.old ≡ key name ∷ reader.new };
+
+    /// Takes the whole number of a member behind which another one stands.
+    fn take_number(reader: &mut Quick<'_>, width: Width) -> Option<u64>
+        ensures { IfSome result (λ n. (n < 2 ^ 64)
+            × (reader.old ≡ token.number (decimal n) ∷ reader.new)) };
+
+    /// Takes the whole number of the last member, and the brace that closes the call.
+    fn take_last(reader: &mut Quick<'_>, width: Width) -> Option<u64>
+        ensures { IfSome result (λ n. (n < 2 ^ 64)
+            × (reader.old ≡ token.number (decimal n) ∷ end_object ∷ reader.new)) };
 
     /// The byte by which the usual calls are told apart: the first letter of the name, where it stands first, and else
     /// a digit. No clause says so: what is taken after it is right whatever it answers.
@@ -56,6 +73,21 @@ impl Spacing for Close {
     #[inline(always)]
     fn take_ask(reader: &mut Quick<'_>) -> bool {
         reader.take_spelled_run("\"call\":\"ask\",\"heard\":")
+    }
+
+    #[inline(always)]
+    fn take_key(reader: &mut Quick<'_>, spelled: &str) -> bool {
+        reader.take_close_key(spelled)
+    }
+
+    #[inline(always)]
+    fn take_number(reader: &mut Quick<'_>, width: Width) -> Option<u64> {
+        reader.take_number_before_comma(width)
+    }
+
+    #[inline(always)]
+    fn take_last(reader: &mut Quick<'_>, width: Width) -> Option<u64> {
+        reader.take_last_number(width)
     }
 
     #[inline(always)]
@@ -90,6 +122,28 @@ impl Spacing for Spaced {
     }
 
     #[inline(always)]
+    fn take_key(reader: &mut Quick<'_>, spelled: &str) -> bool {
+        reader.take_spelled_key(spelled)
+    }
+
+    #[inline(always)]
+    fn take_number(reader: &mut Quick<'_>, width: Width) -> Option<u64> {
+        match width {
+            Width::Short => reader.take_short_number(),
+            Width::Wide => reader.take_wide_number(),
+        }
+    }
+
+    #[inline(always)]
+    fn take_last(reader: &mut Quick<'_>, width: Width) -> Option<u64> {
+        let number = Spaced::take_number(reader, width)?;
+        if !reader.take_end_object() {
+            return None;
+        }
+        Some(number)
+    }
+
+    #[inline(always)]
     fn telling_byte(reader: &Quick<'_>) -> u8 {
         reader.byte_behind(10)
     }
@@ -113,31 +167,37 @@ fn take_named(reader: &mut Quick<'_>, name: &str, behind: &str) -> bool
     true
 }
 
-// The number of the field whose key is spelled so, if it is next.
+// The number of the field whose key is spelled so, if it is next, behind which another member stands.
 #[inline(always)]
-fn number_under(reader: &mut Quick<'_>, spelled: &str, field: Field) -> Option<u64>
+fn number_under<S: Spacing>(reader: &mut Quick<'_>, spelled: &str, field: Field) -> Option<u64>
     requires { spelled.now ≡ spelled_key (key_of field) }
     ensures { IfSome result (λ n. (depth : ℕ) (s : Seen) → NotesMember depth reader.old reader.new s
         (seen_with (key_of field) (number (unsigned n)) s)) }
 {
-    if !reader.take_spelled_key(spelled) {
+    if !S::take_key(reader, spelled) {
         return None;
     }
-    let number = reader.take_short_number()?;
+    let number = S::take_number(reader, Width::Short)?;
     Some(number)
 }
 
-// The number of minislots of the field whose key is spelled so, if it is next.
+// The number of the last field, whose key is spelled so, if it is next, and the brace that closes the call.
 #[inline(always)]
-fn minislots_under(reader: &mut Quick<'_>, spelled: &str, field: Field) -> Option<u64>
+fn last_under<S: Spacing>(
+    reader: &mut Quick<'_>,
+    spelled: &str,
+    field: Field,
+    width: Width,
+) -> Option<u64>
     requires { spelled.now ≡ spelled_key (key_of field) }
-    ensures { IfSome result (λ n. (depth : ℕ) (s : Seen) → NotesMember depth reader.old reader.new s
+    ensures { IfSome result (λ n. (depth : ℕ) (s : Seen)
+        → NotesMember depth reader.old (end_object ∷ reader.new) s
         (seen_with (key_of field) (number (unsigned n)) s)) }
 {
-    if !reader.take_spelled_key(spelled) {
+    if !S::take_key(reader, spelled) {
         return None;
     }
-    let number = reader.take_wide_number()?;
+    let number = S::take_last(reader, width)?;
     Some(number)
 }
 
@@ -154,10 +214,7 @@ fn usual_status<S: Spacing>(reader: &mut Quick<'_>) -> Option<Call>
     ) {
         return None;
     }
-    let sid = reader.take_short_number()?;
-    if !reader.take_end_object() {
-        return None;
-    }
+    let sid = S::take_last(reader, Width::Short)?;
     let mut found = Found::nothing();
     found.sid = Some(sid);
     let call = status(&found)?;
@@ -177,10 +234,7 @@ fn usual_remove<S: Spacing>(reader: &mut Quick<'_>) -> Option<Call>
     ) {
         return None;
     }
-    let sid = reader.take_short_number()?;
-    if !reader.take_end_object() {
-        return None;
-    }
+    let sid = S::take_last(reader, Width::Short)?;
     let mut found = Found::nothing();
     found.sid = Some(sid);
     let call = remove(&found)?;
@@ -200,11 +254,8 @@ fn usual_heard<S: Spacing>(reader: &mut Quick<'_>) -> Option<Call>
     ) {
         return None;
     }
-    let receiver = reader.take_short_number()?;
-    let upto = minislots_under(reader, "\"upto\":", Field::Upto)?;
-    if !reader.take_end_object() {
-        return None;
-    }
+    let receiver = S::take_number(reader, Width::Short)?;
+    let upto = last_under::<S>(reader, "\"upto\":", Field::Upto, Width::Wide)?;
     let mut found = Found::nothing();
     found.receiver = Some(receiver);
     found.upto = Some(upto);
@@ -225,10 +276,7 @@ fn usual_build<S: Spacing>(reader: &mut Quick<'_>) -> Option<Call>
     ) {
         return None;
     }
-    let now = reader.take_wide_number()?;
-    if !reader.take_end_object() {
-        return None;
-    }
+    let now = S::take_last(reader, Width::Wide)?;
     let mut found = Found::nothing();
     found.time = Some(now);
     let call = build(&found)?;
@@ -243,16 +291,13 @@ fn usual_ask<S: Spacing>(reader: &mut Quick<'_>) -> Option<Call>
     if !S::open_bytes(reader) {
         return None;
     }
-    let bytes = reader.take_short_number()?;
+    let bytes = S::take_number(reader, Width::Short)?;
     if !S::take_ask(reader) {
         return None;
     }
-    let at = reader.take_wide_number()?;
-    let receiver = number_under(reader, "\"receiver\":", Field::Receiver)?;
-    let sid = number_under(reader, "\"sid\":", Field::Sid)?;
-    if !reader.take_end_object() {
-        return None;
-    }
+    let at = S::take_number(reader, Width::Wide)?;
+    let receiver = number_under::<S>(reader, "\"receiver\":", Field::Receiver)?;
+    let sid = last_under::<S>(reader, "\"sid\":", Field::Sid, Width::Short)?;
     let mut found = Found::nothing();
     found.bytes = Some(bytes);
     found.heard = Some(at);

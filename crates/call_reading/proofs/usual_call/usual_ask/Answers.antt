@@ -12,11 +12,11 @@ unfolding seen_amount seen_ask
 returns g c = λ depth.
     let ts = c.args.reader.now in
     let r0 = c.open_bytes.new.reader in
-    let r1 = c.take_short_number.new.self in
+    let r1 = c.take_number.new.reader in
     let r2 = c.take_ask.new.reader in
-    let r3 = c.take_wide_number.new.self in
+    let r3 = c.take_number-2.new.reader in
     let r4 = c.number_under.new.reader in
-    let r5 = c.number_under-2.new.reader in
+    let r5 = token.end_object ∷ c.last_under.new.reader in
     let s = token.key (codes "bytes") ∷ r0 in
     let first : ts ≡ token.begin_object ∷ s = c.open_bytes.ensures c.if-not-open_bytes.false in
     let left = token.key (codes "heard") ∷ r2 in
@@ -43,8 +43,8 @@ returns g c = λ depth.
     let said5 = one_more depth s r4 r5 s4 s5 said4 (c.in_ok-sid.ensures depth s4) in (
       s,
       first,
-      call_ends depth s r5 c.take_end_object.new.self s5 c.in_ok-call.call said5
-          (ap read_key (rw c.if-not-take_end_object.false at c.take_end_object.ensures))
+      call_ends depth s r5 c.last_under.new.reader s5 c.in_ok-call.call said5
+          refl
           (ask_named s5 refl ∙ sym (rw none at c.in_ok-call.ensures))
           refl,
     )

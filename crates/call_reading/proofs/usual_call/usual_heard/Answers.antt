@@ -1,7 +1,6 @@
 -- The name, the receiver and the minislot are noted, and make the call.
-use Rattle.std.proofs.Common.{◌≡◌, ◌∷◌, codes, refl, sym, ap, ◌∙◌}
+use Rattle.std.proofs.Common.{◌≡◌, ◌∷◌, codes, refl, sym, ◌∙◌}
 use Rattle.json.specs.Token as token
-use Rattle.json.specs.Json.{read_key}
 use Rattle.serde_json.specs.Data.{string, number, unsigned}
 use Rattle.call_reading.specs.declared.field.Field.TheVariants.{Receiver}
 use Rattle.call_reading.specs.Seen.{nothing, seen_with, seen_heard}
@@ -14,8 +13,8 @@ unfolding seen_heard
 returns g c = λ depth.
     let ts = c.args.reader.now in
     let r1 = c.open_named.new.reader in
-    let r2 = c.take_short_number.new.self in
-    let r3 = c.minislots_under.new.reader in
+    let r2 = c.take_number.new.reader in
+    let r3 = token.end_object ∷ c.last_under.new.reader in
     let left = token.key (codes "receiver") ∷ r1 in
     let s = token.key (codes "call") ∷ token.string (codes "heard") ∷ left in
     let first : ts ≡ token.begin_object ∷ s =
@@ -32,8 +31,8 @@ returns g c = λ depth.
     let said3 = one_more depth s r2 r3 s2 s3 said2 (c.in_ok-upto.ensures depth s2) in (
       s,
       first,
-      call_ends depth s r3 c.take_end_object.new.self s3 c.in_ok-call.call said3
-          (ap read_key (rw c.if-not-take_end_object.false at c.take_end_object.ensures))
+      call_ends depth s r3 c.last_under.new.reader s3 c.in_ok-call.call said3
+          refl
           (heard_named s3 refl ∙ sym c.in_ok-call.ensures)
           refl,
     )

@@ -1,7 +1,6 @@
 -- The name and the number behind it are noted, and make the call.
-use Rattle.std.proofs.Common.{◌≡◌, ◌∷◌, codes, refl, sym, ap, ◌∙◌}
+use Rattle.std.proofs.Common.{◌≡◌, ◌∷◌, codes, refl, sym, ◌∙◌}
 use Rattle.json.specs.Token as token
-use Rattle.json.specs.Json.{read_key}
 use Rattle.serde_json.specs.Data.{string, number, unsigned}
 use Rattle.call_reading.specs.declared.field.Field.TheVariants.{Sid}
 use Rattle.call_reading.specs.Seen.{nothing, seen_with, seen_remove}
@@ -14,7 +13,7 @@ unfolding seen_remove
 returns g c = λ depth.
     let ts = c.args.reader.now in
     let r1 = c.open_named.new.reader in
-    let r2 = c.take_short_number.new.self in
+    let r2 = token.end_object ∷ c.take_last.new.reader in
     let left = token.key (codes "sid") ∷ r1 in
     let s = token.key (codes "call") ∷ token.string (codes "remove") ∷ left in
     let first : ts ≡ token.begin_object ∷ s =
@@ -27,9 +26,9 @@ returns g c = λ depth.
     let said = number_noted depth left r1 r2 a (codes "sid") n refl taken.0 taken.1 in (
       s,
       first,
-      call_ends depth s r2 c.take_end_object.new.self b c.in_ok-call.call
+      call_ends depth s r2 c.take_last.new.reader b c.in_ok-call.call
           (one_more depth s left r2 a b (one_more depth s s left nothing a (none_said depth s) name) said)
-          (ap read_key (rw c.if-not-take_end_object.false at c.take_end_object.ensures))
+          refl
           (remove_named b refl ∙ sym c.in_ok-call.ensures)
           refl,
     )
