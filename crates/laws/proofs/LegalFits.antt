@@ -1,6 +1,7 @@
 -- The numbers of a legal history fit the types of their fields where those of its calls do, and no reply is long.
 use Rattle.std.proofs.Common.{◌≡◌, ℕ, ◌+◌, ◌*◌, ◌^◌, ◌<◌, ◌≤◌, Bool, true, false, cond, if◌then◌else◌, find, ◌==◌}
-use Rattle.std.proofs.Common.{List, [], ◌∷◌, length, slice_index, Option, None, Some, refl, sym, ap, ◌∙◌, subst, inl, inr, arith}
+use Rattle.std.proofs.Common.{List, [], ◌∷◌, length, slice_index, Option, None, Some, refl, sym, ap, ◌∙◌, subst, inl}
+use Rattle.std.proofs.Common.{inr, arith}
 use Rattle.std.specs.List.{AllByRecursion}
 use Rattle.std.specs.Option.{IsSomeAnd, MatchOption}
 use Rattle.minislots.specs.declared.config.Config.{Config}
@@ -82,7 +83,8 @@ module _ (c : Config) (lawful : IsLawful c) (config_fits : ConfigFits c) (h : Li
         starts-few c bounds table spec places (next_after c h) p lawful_place,
       )
 
-  placed-good : (spec : FlowSpec) (reply : Reply) → HasPlaces c spec → PlacesOrRefuses c (situation_of c h) spec reply → IsGood reply
+  placed-good : (spec : FlowSpec) (reply : Reply) → HasPlaces c spec
+      → PlacesOrRefuses c (situation_of c h) spec reply → IsGood reply
   placed-good spec reply places (inl (p, lawful_place, is)) =
       let good = place-good (table_of h) spec p places lawful_place in
       subst IsGood (sym is) (record { fits = good.0; short = good.1 })
@@ -95,7 +97,8 @@ module _ (c : Config) (lawful : IsLawful c) (config_fits : ConfigFits c) (h : Li
       let good = place-good table spec p places lawful_place in
       subst IsGood (sym is) (record { fits = good.0; short = good.1 })
 
-  anew-good : (sid : ℕ) (spec : FlowSpec) (reply : Reply) → HasPlaces c spec → PlacesAnew c (situation_of c h) sid spec reply
+  anew-good : (sid : ℕ) (spec : FlowSpec) (reply : Reply) → HasPlaces c spec
+      → PlacesAnew c (situation_of c h) sid spec reply
       → IsGood reply
   anew-good sid spec reply places (inl (p, lawful_place, is)) =
       moved-good (without sid (table_of h)) spec p reply places lawful_place is
@@ -123,7 +126,8 @@ module _ (c : Config) (lawful : IsLawful c) (config_fits : ConfigFits c) (h : Li
       let kept = kept-placed given spec p given.placement refl was same told in
       moved-good kept.0 spec p reply places kept.1 is
   given-good sid given spec reply none was (inr (inl (other, periodic, answers))) =
-      anew-good sid spec reply (places_of c spec lawful periodic (passed-change c (situation_of c h) sid spec none).no_fault) answers
+      anew-good sid spec reply (places_of c spec lawful periodic (passed-change c
+          (situation_of c h) sid spec none).no_fault) answers
   given-good sid given spec reply none was (inr (inr (aperiodic, is))) =
       subst IsGood (sym is) (record { fits = tt; short = tt })
 
@@ -139,10 +143,12 @@ module _ (c : Config) (lawful : IsLawful c) (config_fits : ConfigFits c) (h : Li
       → AnswersAdmit c (situation_of c h) spec reply → IsGood reply
   admit-good sid (Unsolicited size interval jitter grants) reply none answers =
       let spec = Unsolicited size interval jitter grants in
-      placed-good spec reply (places_of c spec lawful refl (passed-admit c (situation_of c h) sid spec none).no_fault) answers
+      placed-good spec reply (places_of c spec lawful refl (passed-admit c
+          (situation_of c h) sid spec none).no_fault) answers
   admit-good sid (Polled interval jitter rate burst peak) reply none answers =
       let spec = Polled interval jitter rate burst peak in
-      placed-good spec reply (places_of c spec lawful refl (passed-admit c (situation_of c h) sid spec none).no_fault) answers
+      placed-good spec reply (places_of c spec lawful refl (passed-admit c
+          (situation_of c h) sid spec none).no_fault) answers
   admit-good sid (BestEffort priority rate burst peak reserved reserved-burst) reply none answers =
       subst IsGood (sym answers) (record { fits = tt; short = tt })
 

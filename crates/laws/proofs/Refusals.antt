@@ -72,7 +72,8 @@ module _ (c : Config) (s : Situation) (next-small : s.next < 2 ^ 64)
 
   -- or a minislot whose requests came too late, or are not described yet
   untimely : (receiver heard : ℕ) (refusal : Refusal)
-      → option_or (refused_if (nat_lt heard (slice_index s.progress receiver)) (Acked (slice_index s.progress receiver)))
+      → option_or (refused_if (nat_lt heard (slice_index s.progress receiver)) (Acked
+      (slice_index s.progress receiver)))
       (option_or (refused_if (nat_le s.next heard) (Ahead s.next)) None) ≡ Some refusal
       → RefusalFits refusal
   untimely receiver heard refusal is =
@@ -104,7 +105,8 @@ module _ (c : Config) (s : Situation) (next-small : s.next < 2 ^ 64)
       unknown sid _ refusal is (λ is.
       refused (not (has_live (is_kind_of spec) sid s.flows)) OtherKind _ refusal is tt (λ is.
       faulty (first_fault c spec) _ refusal is (λ is.
-      refused (is_periodic spec && nat_lt c.periodic (interval_grants (without sid s.flows) + grants_of spec)) PeriodicFull _
+      refused (is_periodic spec && nat_lt c.periodic (interval_grants
+          (without sid s.flows) + grants_of spec)) PeriodicFull _
       refusal is tt (no_more refusal))))
   refusal_fits (calls.Rest sid) refusal is =
       unknown sid _ refusal is (λ is.

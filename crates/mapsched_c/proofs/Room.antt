@@ -69,10 +69,12 @@ module _ (c : Config) (conf : IsLawful c) where
   kept_room next from given spec None p at was told = absurd told
   kept_room next from given spec (Some stands) p at was told =
       let placed = was stands at in
-      rw told.starts (placed_room placed.table placed.since given.spec stands placed.periodic placed.faultless placed.lawful)
+      rw told.starts (placed_room placed.table placed.since given.spec stands placed.periodic placed.faultless
+          placed.lawful)
 
   given_room : (h : List Entry) (sid : ℕ) (given : Admission) (spec : FlowSpec) (reply : Reply)
-      → WasPlacedIn c (next_after c h) given → first_fault c spec ≡ None → AnswersChange c (situation_of c h) sid given spec reply
+      → WasPlacedIn c (next_after c h) given → first_fault c spec ≡ None
+      → AnswersChange c (situation_of c h) sid given spec reply
       → HasRoom reply
   given_room h sid given spec reply was none (inl (same, (p, told, e))) =
       rw e (kept_room (next_after c h) (next_after c h) given spec given.placement p refl was told)
@@ -151,7 +153,8 @@ pub recorded_room : (old new : Machine) (stamp : Stamp) (call : Call) (reply : R
     → new ≡ record old { history = old.history ++ record { stamp = stamp; call = call; reply = reply } ∷ [] }
     → IsLegal new.config new.history → HasRoom reply
 recorded_room old new stamp call reply lawful recorded legal =
-    last_room old.config old.history stamp call reply lawful (subst (λ (m : Machine). IsLegal m.config m.history) recorded legal)
+    last_room old.config old.history stamp call reply lawful (subst (λ
+        (m : Machine). IsLegal m.config m.history) recorded legal)
 
 -- what holds of each holds of the one at a place
 pub at_place : {A : Type 0} (P : A → Type 0) (xs : List A) (i : ℕ) (x : A) → AllByRecursion P xs

@@ -52,13 +52,15 @@ module _ (c : Config) (h : List Entry) (m : FrameMap) where
       not_built (replies.Admitted None) refl answers
 
   -- or to a change
-  placed_anew : (sid : ℕ) (spec : FlowSpec) → PlacesAnew c (situation_of c h) sid spec (replies.Built m) → IsNextMap c h m
+  placed_anew : (sid : ℕ) (spec : FlowSpec) → PlacesAnew c (situation_of c h) sid spec (replies.Built m)
+      → IsNextMap c h m
   placed_anew sid spec answers = ⊎_elim
       (λ one. not_built (replies.Changed (Some one.0)) refl one.2)
       (λ none_there. not_built (replies.Refused _) refl none_there.1)
       answers
 
-  given : (sid : ℕ) (a : Admission) (spec : FlowSpec) → AnswersChange c (situation_of c h) sid a spec (replies.Built m) → IsNextMap c h m
+  given : (sid : ℕ) (a : Admission) (spec : FlowSpec)
+      → AnswersChange c (situation_of c h) sid a spec (replies.Built m) → IsNextMap c h m
   given sid a spec answers = ⊎_elim
       (λ kept. not_built (replies.Changed (Some kept.1.0)) refl kept.1.2)
       (λ moved. ⊎_elim

@@ -31,11 +31,13 @@ module _ (c : Config) (h : List Entry) where
       placed (Polled interval jitter rate burst peak) reply answers
   admitted (BestEffort priority rate burst peak reserved reserved-burst) reply answers = ap map_by answers
 
-  placed_anew : (sid : ℕ) (spec : FlowSpec) (reply : Reply) → PlacesAnew c (situation_of c h) sid spec reply → map_by reply ≡ None
+  placed_anew : (sid : ℕ) (spec : FlowSpec) (reply : Reply) → PlacesAnew c (situation_of c h) sid spec reply
+      → map_by reply ≡ None
   placed_anew sid spec reply answers =
       ⊎_elim (λ one. ap map_by one.2) (λ none_there. ap map_by none_there.1) answers
 
-  given : (sid : ℕ) (a : Admission) (spec : FlowSpec) (reply : Reply) → AnswersChange c (situation_of c h) sid a spec reply
+  given : (sid : ℕ) (a : Admission) (spec : FlowSpec) (reply : Reply)
+      → AnswersChange c (situation_of c h) sid a spec reply
       → map_by reply ≡ None
   given sid a spec reply answers = ⊎_elim
       (λ kept. ap map_by kept.1.2)
@@ -71,7 +73,8 @@ module _ (c : Config) (h : List Entry) where
   answered (calls.Reserve usage slots) other reply answers = ap map_by answers
   answered (calls.Header header) other reply answers = ap map_by answers
   answered (calls.Replace receiver sid amount heard) other reply answers = ap map_by answers
-  answered (calls.Change sid spec) other reply answers = changed (given_of sid (situation_of c h)) sid spec reply answers
+  answered (calls.Change sid spec) other reply answers = changed (given_of sid
+      (situation_of c h)) sid spec reply answers
   answered (calls.Rest sid) other reply answers = ap map_by answers
   answered (calls.Wake sid) other reply answers = ap map_by answers
 
