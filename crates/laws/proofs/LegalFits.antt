@@ -127,7 +127,7 @@ module _ (c : Config) (lawful : IsLawful c) (config_fits : ConfigFits c) (h : Li
       moved-good kept.0 spec p reply places kept.1 is
   given-good sid given spec reply none was (inr (inl (other, periodic, answers))) =
       anew-good sid spec reply (places_of c spec lawful periodic (passed-change c
-          (situation_of c h) sid spec none).no_fault) answers
+      (situation_of c h) sid spec none).no_fault) answers
   given-good sid given spec reply none was (inr (inr (aperiodic, is))) =
       subst IsGood (sym is) (record { fits = tt; short = tt })
 
@@ -144,11 +144,11 @@ module _ (c : Config) (lawful : IsLawful c) (config_fits : ConfigFits c) (h : Li
   admit-good sid (Unsolicited size interval jitter grants) reply none answers =
       let spec = Unsolicited size interval jitter grants in
       placed-good spec reply (places_of c spec lawful refl (passed-admit c
-          (situation_of c h) sid spec none).no_fault) answers
+      (situation_of c h) sid spec none).no_fault) answers
   admit-good sid (Polled interval jitter rate burst peak) reply none answers =
       let spec = Polled interval jitter rate burst peak in
       placed-good spec reply (places_of c spec lawful refl (passed-admit c
-          (situation_of c h) sid spec none).no_fault) answers
+      (situation_of c h) sid spec none).no_fault) answers
   admit-good sid (BestEffort priority rate burst peak reserved reserved-burst) reply none answers =
       subst IsGood (sym answers) (record { fits = tt; short = tt })
 

@@ -106,7 +106,7 @@ module _ (c : Config) (s : Situation) (next-small : s.next < 2 ^ 64)
       refused (not (has_live (is_kind_of spec) sid s.flows)) OtherKind _ refusal is tt (λ is.
       faulty (first_fault c spec) _ refusal is (λ is.
       refused (is_periodic spec && nat_lt c.periodic (interval_grants
-          (without sid s.flows) + grants_of spec)) PeriodicFull _
+      (without sid s.flows) + grants_of spec)) PeriodicFull _
       refusal is tt (no_more refusal))))
   refusal_fits (calls.Rest sid) refusal is =
       unknown sid _ refusal is (λ is.

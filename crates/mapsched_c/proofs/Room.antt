@@ -70,7 +70,7 @@ module _ (c : Config) (conf : IsLawful c) where
   kept_room next from given spec (Some stands) p at was told =
       let placed = was stands at in
       rw told.starts (placed_room placed.table placed.since given.spec stands placed.periodic placed.faultless
-          placed.lawful)
+      placed.lawful)
 
   given_room : (h : List Entry) (sid : ℕ) (given : Admission) (spec : FlowSpec) (reply : Reply)
       → WasPlacedIn c (next_after c h) given → first_fault c spec ≡ None
@@ -154,7 +154,7 @@ pub recorded_room : (old new : Machine) (stamp : Stamp) (call : Call) (reply : R
     → IsLegal new.config new.history → HasRoom reply
 recorded_room old new stamp call reply lawful recorded legal =
     last_room old.config old.history stamp call reply lawful (subst (λ
-        (m : Machine). IsLegal m.config m.history) recorded legal)
+    (m : Machine). IsLegal m.config m.history) recorded legal)
 
 -- what holds of each holds of the one at a place
 pub at_place : {A : Type 0} (P : A → Type 0) (xs : List A) (i : ℕ) (x : A) → AllByRecursion P xs
