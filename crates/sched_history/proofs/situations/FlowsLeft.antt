@@ -1,5 +1,5 @@
 -- The live flows and the placed ones that are left with one step more.
-use Rattle.std.proofs.Common.{◌≡◌, ℕ, Bool, true, false, if◌then◌else◌, List, [], ◌∷◌, ◌++◌, map, inl, inr}
+use Rattle.std.proofs.Common.{◌≡◌, ℕ, Bool, true, false, if◌then◌else◌, List, [], ◌∷◌, ◌++◌, inl, inr}
 use Rattle.std.proofs.Common.{Option, None, Some, refl, sym, ap, ◌∙◌, subst}
 use Rattle.std.specs.Option.{MatchOption}
 use Rattle.minislots.specs.declared.config.Config.{Config}
@@ -19,7 +19,7 @@ use Rattle.sched_calls.specs.declared.reply.Refusal.TheVariants.{NoPlace}
 use Rattle.sched_calls.specs.declared.reply.Reply.{Reply}
 use Rattle.sched_calls.specs.declared.reply.Reply.TheVariants as replies
 use Rattle.sched_calls.specs.declared.reply.Entry.{Entry}
-use Rattle.sched_history.specs.Life.{Admission, turn_by, change_by, rest_by, grants_of_map, flows_of, table_of}
+use Rattle.sched_history.specs.Life.{Admission, grants_of_map, flows_of, table_of}
 use Rattle.sched_history.specs.Time.{next_after, ack_after}
 use Rattle.sched_history.specs.Headers.{header_after}
 use Rattle.sched_history.specs.Situation.{situation_of, given_of, flows_by, placed_by}
@@ -28,7 +28,7 @@ use Rattle.sched_history.specs.History.{PlacesOrRefuses, AnswersAdmit, PlacesAne
 use Rattle.sched_history.specs.History.{demand_after, IsNextMap, Answers, IsStep}
 use Rattle.sched_history.proofs.lives.Finding.{good_sid}
 use Rattle.sched_history.proofs.lives.Left.{life_of-dead, life_of-live}
-use Rattle.sched_history.proofs.lives.FlowsAfter.{LeavesFlows, flows_of-quiet, table_of-stays}
+use Rattle.sched_history.proofs.lives.FlowsAfter.{flows_of-quiet, table_of-stays}
 use Rattle.sched_history.proofs.flows.MapGrants.{plan-HasBytes, grants_of_map-plan}
 use Rattle.sched_history.proofs.flows.FlowCalls.{map-each, flows_of-ask, table_of-ask, flows_of-remove, table_of-remove}
 use Rattle.sched_history.proofs.flows.ReplaceCall.{flows_of-replace, table_of-replace}

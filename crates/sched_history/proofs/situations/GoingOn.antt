@@ -1,10 +1,9 @@
 -- How a history may go on depends on what it leaves alone.
-use Rattle.std.proofs.Common.{◌≡◌, List, [], ◌∷◌, ◌++◌, None, refl, sym, ap, ◌∙◌, subst, append_assoc, append-nil, replicate}
+use Rattle.std.proofs.Common.{◌≡◌, List, [], ◌∷◌, ◌++◌, sym, ap, ◌∙◌, subst, append_assoc, append-nil}
 use Rattle.minislots.specs.declared.config.Config.{Config}
 use Rattle.map_build.specs.EachAfter.{EachAfter}
-use Rattle.sched_calls.specs.Header.{header_of}
 use Rattle.sched_calls.specs.declared.reply.Entry.{Entry}
-use Rattle.sched_history.specs.Situation.{Situation, situation_of, after, situation_after}
+use Rattle.sched_history.specs.Situation.{situation_of, situation_after}
 use Rattle.sched_history.specs.History.{IsStep, IsLegal, IsLegalFrom}
 use Rattle.sched_history.proofs.steps.Steps.{IsLegal-push}
 use Rattle.sched_history.proofs.situations.Leaving.{situation_of-push}

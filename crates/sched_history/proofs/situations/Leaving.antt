@@ -2,7 +2,6 @@
 use Rattle.std.proofs.Common.{◌≡◌, ℕ, List, [], ◌∷◌, ◌++◌, refl}
 use Rattle.std.proofs.lemmas.List.{length_push}
 use Rattle.minislots.specs.declared.config.Config.{Config}
-use Rattle.minislots.specs.declared.stamp.Stamp.{Stamp}
 use Rattle.flow_book.specs.Flows.{LiveFlow}
 use Rattle.periodic.specs.Placement.{Placed}
 use Rattle.sched_calls.specs.declared.opportunity.Header.{Header}

@@ -12,7 +12,7 @@ use Rattle.sched_calls.specs.declared.call.Call.TheVariants as calls
 use Rattle.sched_calls.specs.declared.reply.Reply.{Reply}
 use Rattle.sched_calls.specs.declared.reply.Reply.TheVariants as replies
 use Rattle.sched_calls.specs.declared.reply.Entry.{Entry}
-use Rattle.sched_history.specs.Time.{progress_by, progress_of, next_after}
+use Rattle.sched_history.specs.Time.{progress_of, next_after}
 use Rattle.sched_history.specs.Headers.{header_by, header_after}
 use Rattle.sched_history.specs.Settling.{settling_after, last_ack}
 use Rattle.sched_history.specs.Situation.{next_by, heard_by, settling_by, ack_by}

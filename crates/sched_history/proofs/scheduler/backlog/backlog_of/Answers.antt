@@ -1,7 +1,6 @@
 -- One flow more, which waits or not.
-use Rattle.std.proofs.Common.{◌≡◌, ◌∙◌, ◌+◌, ◌<◌, ◌≤◌, nat_lt, take, length, count_by, sum_by, Some, option_map}
+use Rattle.std.proofs.Common.{◌≡◌, ◌∙◌, ◌+◌, ◌<◌, ◌≤◌, length, Some, option_map}
 use Rattle.std.proofs.Common.{slice_get, ap, sym, arith}
-use Rattle.std.proofs.lemmas.Bool.Decides.{nat_tests}
 use Rattle.flow_book.specs.Flows.{outstanding}
 use Rattle.sched_history.proofs.flows.Waiting.{bytes-next, flows-waits, flows-none}
 use Rattle.sched_history.proofs.scheduler.backlog.backlog_of.Goals as goal

@@ -1,5 +1,5 @@
 -- What is kept of a receiver is what is left of it.
-use Rattle.std.proofs.Common.{◌≡◌, ◌<◌, ◌∙◌, ap, arith, slice_index}
+use Rattle.std.proofs.Common.{◌<◌, ◌∙◌, ap, arith, slice_index}
 use Rattle.minislots.proofs.Bounds.{bounds_of}
 use Rattle.sched_history.specs.Situation.{situation_of}
 use Rattle.sched_history.proofs.state.Present.{progress-kept}

@@ -1,5 +1,5 @@
 -- One Reserve more is counted where it lapses.
-use Rattle.std.proofs.Common.{◌≡◌, ◌∙◌, ◌+◌, ◌<◌, take, length, ap, sym, arith}
+use Rattle.std.proofs.Common.{◌∙◌, ◌+◌, ◌<◌, take, length, ap, sym, arith}
 use Rattle.sched_history.specs.Reserves.{lapses_of}
 use Rattle.sched_history.proofs.reserves.Lapsing.{lapses-none, lapses-next}
 use Rattle.sched_history.proofs.scheduler.reserves.Reserves.lapses.Goals as goal
