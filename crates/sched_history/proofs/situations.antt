@@ -6,3 +6,4 @@ pub mod GoingOn
 pub mod Places
 pub mod Quiet
 pub mod Sound
+pub mod Opening

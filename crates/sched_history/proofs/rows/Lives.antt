@@ -96,7 +96,8 @@ grants_again = (
   whole_grant,
   IsNextMap-from_lawful base begun_again (fresh 600 544 841 ∷ []) [] whole_grant
       (flows_of-one base begun_again 17 second_life (lit≤ tt) (lit≤ tt) refl others_again)
-      (table_of-unplaced_one begun_again 17 second_life refl refl others_again) refl a_first_grant_of_all_that_was_asked,
+      (table_of-unplaced_one begun_again 17 second_life refl refl others_again) refl
+      a_first_grant_of_all_that_was_asked,
   refl,
 )
 

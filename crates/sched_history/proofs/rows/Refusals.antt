@@ -91,7 +91,8 @@ unfolding first_fault sids
 an_admission_above_the_priorities_is_refused = refl
 
 -- a burst of 63 bytes, below the quantum of 64
-pub an_admission_below_the_quantum_is_refused : IsStep base [] (Admit 5 (BestEffort 7 1 63 0 0 0)) (Refused (BadFlow Burst))
+pub an_admission_below_the_quantum_is_refused : IsStep base [] (Admit 5 (BestEffort 7 1 63 0 0 0)) (Refused
+    (BadFlow Burst))
 unfolding first_fault sids
 an_admission_below_the_quantum_is_refused = refl
 

@@ -45,7 +45,11 @@ lower_life rest =
     record { admission = record { spec = BestEffort 3 0 0 0 0 0; placement = None }; since = second ∷ (asks ++ rest) }
 
 abbrev higher_life : List Entry → Life
-higher_life rest = record { admission = record { spec = BestEffort 3 0 0 0 0 0; placement = None }; since = asks ++ rest }
+higher_life rest = record {
+  admission = record { spec = BestEffort 3 0 0 0 0 0; placement = None };
+  since = asks ++
+      rest;
+}
 
 -- no third SID has a life at any time
 third : (sid : ℕ) → sid ≢ 20 → sid ≢ 21 → (life_of sid (asked []) ≡ None) × (life_of sid (asked (turn ∷ [])) ≡ None)
@@ -62,7 +66,8 @@ admits_another : IsStep base (built ∷ first ∷ []) (Admit 21 (BestEffort 3 0 
 unfolding first_fault
 admits_another =
     rw (flows_of-one base (built ∷ first ∷ []) 20
-    (record { admission = record { spec = BestEffort 3 0 0 0 0 0; placement = None }; since = [] }) (lit≤ tt) (lit≤ tt) refl
+    (record { admission = record { spec = BestEffort 3 0 0 0 0 0; placement = None }; since = [] }) (lit≤ tt)
+    (lit≤ tt) refl
     (λ sid other. rw (ne_eqb 20 sid (λ e. other (sym e))))) refl
 
 -- the lower SID is served

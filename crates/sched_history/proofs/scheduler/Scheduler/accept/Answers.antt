@@ -47,7 +47,8 @@ invariant_of-self-2 c =
     let opens = IsOpenTo-inside a c.args.self.now c.self.view_is c.args.call c.self.invariant c.requires.room
     c.requires.unrefused in
     IsSound-answered a _ c.args.stamp c.args.call c.in_ok-answer.answer.reply c.self.invariant
-    c.note.ensures.counted c.note.ensures.items opens (c.in_ok-answer.ensures.answered (situation_of a.state.config a.ledger) opens)
+    c.note.ensures.counted c.note.ensures.items opens (c.in_ok-answer.ensures.answered
+    (situation_of a.state.config a.ledger) opens)
     c.note.ensures.capacity (subst (λ m. is_full m ≡ false) (sym c.self.view_is) c.requires.room)
 
 pub note-requires-clause-few : goal.note-requires-clause-few

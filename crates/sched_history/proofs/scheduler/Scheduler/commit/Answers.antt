@@ -22,7 +22,8 @@ commit-reply-requires c =
       now,
       situation_of a.state.config a.ledger,
       IsOpenTo-inside a m c.self.view_is (Build now) c.self.invariant fits.room fits.unrefused,
-      subst (λ n. IsBuildAfter n.config (situation_of n.config n.history) p) (sym c.self.view_is) (IsBuildAfter-planned m p fits),
+      subst (λ n. IsBuildAfter n.config (situation_of n.config n.history) p) (sym c.self.view_is)
+          (IsBuildAfter-planned m p fits),
     )
 
 pub invariant_of-self : goal.invariant_of-self

@@ -42,6 +42,7 @@ returns-in_default c =
     let e = c.args.entry.now in
     record {
       met = λ step. c.new.ensures.items ∙ sym (met_after-unbuilt past.config past.history e.reply
-          (map_by-other past.config (situation_of past.config past.history) e.call e.reply (c.in_default.not-Build) step));
+          (map_by-other past.config (situation_of past.config past.history) e.call e.reply
+          (c.in_default.not-Build) step));
       memory = tt;
     }

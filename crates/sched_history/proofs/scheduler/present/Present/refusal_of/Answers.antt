@@ -6,5 +6,6 @@ use Rattle.sched_history.proofs.scheduler.present.Present.refusal_of.Goals as go
 
 pub returns-in-None : goal.returns-in-None
 returns-in-None c = rw c.in-Ask.is
-    (c.refuse_request.ensures ∙ sym (asker-passed c.in-Ask.sid (situation_of c.args.self.now.config c.args.self.now.history) _
+    (c.refuse_request.ensures
+    ∙ sym (asker-passed c.in-Ask.sid (situation_of c.args.self.now.config c.args.self.now.history) _
     (sym c.refuse_asker.ensures ∙ c.in-None.is)))

@@ -15,4 +15,5 @@ returns c =
       c.in_ok-receivers.ensures,
       c.in_ok-flows.ensures,
       c.in_ok-reserves_of.ensures,
-    ) (state-after s (situation_of s.config h) c.self.invariant.is_after ∙ ap (λ (p : Past). state_of p.config p.history) c.self.view_is)
+    ) (state-after s (situation_of s.config h) c.self.invariant.is_after
+    ∙ ap (λ (p : Past). state_of p.config p.history) c.self.view_is)

@@ -21,7 +21,13 @@ waits-after : (standing : Standing) (s : State) (h : List Entry)
     → (if settles_next s then [] else map (λ f. f.sid) (filter (waits_so standing s.book.config s.next) s.book.flows))
     ≡ (if settles_after s.config h then [] else waits_next standing s.config h)
 waits-after standing s h is_after =
-    rw (settles_next-after s (situation_of s.config h) is_after, is_after.book_config, is_after.next, is_after.flows) refl
+    rw (
+      settles_next-after s
+          (situation_of s.config h) is_after,
+      is_after.book_config,
+      is_after.next,
+      is_after.flows,
+    ) refl
 
 pub returns-in-Built-clause-waits : goal.returns-in-Built-clause-waits
 returns-in-Built-clause-waits c =

@@ -7,7 +7,8 @@ use Rattle.sched_history.proofs.state.ChangeMoves.{IsStateAfter-changed}
 use Rattle.sched_history.proofs.situations.Quiet.{IsQuiet-refused}
 use Rattle.sched_history.proofs.state.Moves.{IsStateAfter-quiet}
 use Rattle.sched_history.proofs.state.Changing.{had-place, change-live, change-kind}
-use Rattle.sched_history.proofs.state.Changing.{change-fault, change-aligned, change-next, change-is_placed, change-room}
+use Rattle.sched_history.proofs.state.Changing.{change-fault, change-aligned, change-next, change-is_placed}
+use Rattle.sched_history.proofs.state.Changing.{change-room}
 use Rattle.sched_history.proofs.state.Changing.{beside, none-beside, answers-given, takes-given}
 use Rattle.sched_history.proofs.scheduler.state.State.change_place.Goals as goal
 

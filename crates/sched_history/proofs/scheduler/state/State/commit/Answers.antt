@@ -23,7 +23,8 @@ returns-clause-answered c = λ now x opens fits.
       is_after = IsStateAfter-built s x opens.is_after now p.map c.take_in.new.self c.follow.new.self
           c.follow-2.new.self
           (c.take_in.ensures.config ∙ opens.is_after.book_config) (c.take_in.ensures.flows ∙ fits.flows)
-          (c.follow.ensures ∙ ap (λ b. if b then s.reserves else aged (unmarked p.met s.reserves)) c.settles-settles.ensures
+          (c.follow.ensures ∙ ap (λ b. if b then s.reserves else aged
+          (unmarked p.met s.reserves)) c.settles-settles.ensures
           ∙ reserves-behind s x opens.is_after p.met ∙ fits.reserves)
           (next_start_in s.config x p.map fits.lawful ∙ sym opens.is_after.next) c.follow-2.ensures;
     })

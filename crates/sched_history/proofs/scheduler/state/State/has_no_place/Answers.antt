@@ -48,7 +48,12 @@ returns-clause-same c =
     let put : TableView = c.place.new.self in
     elim c.match-place.branch [
       | in-Ok w ↦ (
-          let p : Placed = record { sid = c.args.sid; spec = c.args.spec; placement = w.in-Ok.field-0; rests = false } in
+          let p : Placed = record {
+            sid = c.args.sid;
+            spec = c.args.spec;
+            placement = w.in-Ok.field-0;
+            rests = false;
+          } in
           w.self-is ∙ rw (w.remove.ensures)
           (ap (λ (t : TableView). record old { table = t })
           (table-undone old.table put p fresh w.in-Ok.ensures.config w.in-Ok.ensures.placed)))
