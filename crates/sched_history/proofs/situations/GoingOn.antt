@@ -1,10 +1,6 @@
 -- How a history may go on depends on what it leaves alone.
-<<<<<<< HEAD
-use Rattle.std.proofs.Common.{◌≡◌, List, [], ◌∷◌, ◌++◌, sym, ap, ◌∙◌, subst, append_assoc, append-nil}
-=======
 use Rattle.std.proofs.Common.{◌≡◌, List, [], ◌∷◌, ◌++◌, None, refl, sym, ap, ◌∙◌, subst, append_assoc, append-nil}
 use Rattle.std.proofs.Common.{replicate}
->>>>>>> origin/main
 use Rattle.minislots.specs.declared.config.Config.{Config}
 use Rattle.map_build.specs.EachAfter.{EachAfter}
 use Rattle.sched_calls.specs.declared.reply.Entry.{Entry}
