@@ -168,25 +168,6 @@ run_left b may t r name content next plain_name plain_content plain_next is =
     (key_spelled r3 (spelled_key next) next r refl refl) refl in
     named ∙ ap (λ l. key name ∷ l) (said ∙ ap (λ l. string content ∷ l) (sym (comma_passed r2 r3 refl) ∙ behind))
 
--- the brace that opens an object, and a key behind it
-pub key_opens : (b : Before) → begins_at b ≡ true → (t r name : List ℕ) → escape name ≡ name
-    → t ≡ (123 ∷ spelled_key name) ++ r → tokens_from b t ≡ begin_object ∷ key name ∷ tokens_from Opening r
-key_opens b may t r name same is =
-    let s = spelled_key name ++ r in
-    object_opens t s b may is
-    ∙ ap (λ ts. begin_object ∷ ts) (key_left Opening refl s r name (58 ∷ r) same
-    (key_spelled s (spelled_key name) name r refl refl) refl)
-
--- the brace that opens an object, and a run behind it
-pub run_opens : (b : Before) → begins_at b ≡ true → (t r name content next : List ℕ) → escape name ≡ name
-    → escape content ≡ content → escape next ≡ next → t ≡ (123 ∷ spelled_run name content next) ++ r
-    → tokens_from b t ≡ begin_object ∷ key name ∷ string content ∷ key next ∷ tokens_from Opening r
-run_opens b may t r name content next plain_name plain_content plain_next is =
-    let s = spelled_run name content next ++ r in
-    object_opens t s b may is
-    ∙ ap (λ ts. begin_object ∷ ts)
-    (run_left Opening refl s r name content next plain_name plain_content plain_next refl)
-
 -- where no lexeme is left, no token is
 pub none_left : (b : Before) → closes_at b ≡ true → (t : List ℕ) → lex between t ≡ [] → tokens_from b t ≡ []
 unfolding punctuate

@@ -32,18 +32,3 @@ pub(crate) fn long_word_at(text: &[u8], at: usize, word: &[u8]) -> bool
     let last = count - 16;
     same_sixteen(text, at, word, 0) && same_sixteen(text, at + last, word, last)
 }
-
-/// How many digits stand one behind the other at a place, of sixteen bytes.
-#[inline(always)]
-pub(crate) fn digits_in(text: &[u8], at: usize) -> usize
-    requires { at + 16 ≤ length text.now }
-    ensures { (k : ℕ) → k < result
-        → (48 ≤ get_or text.now (at + k) 0) × (get_or text.now (at + k) 0 ≤ 57) }
-{
-    let values = u8x16::from_slice(&text[at..]) - u8x16::splat(b'0');
-    let others = values.simd_gt(u8x16::splat(9)).to_bitmask();
-    if others == 0 {
-        return 16;
-    }
-    others.trailing_zeros() as usize
-}

@@ -11,4 +11,4 @@ mod quick;
 mod short_numbers;
 mod spelled;
 
-pub use quick::{Quick, Width};
+pub use quick::Quick;

@@ -4,7 +4,6 @@ ghost use Rattle.std.specs.Prelude.{◌≡◌, ◌+◌, ◌-◌, ◌^◌, ◌<�
 ghost use Rattle.std.specs.Prelude.{IsTrue, IfSome};
 ghost use Rattle.byte_tokens.specs.Spelled.{Spells};
 
-use crate::blocks::digits_in;
 use crate::spelled::byte_at;
 
 // The greatest number to which a digit can be put.
@@ -40,6 +39,15 @@ pub(crate) fn long_number_at(text: &[u8], from: usize) -> Option<(u64, usize)>
         at += 1;
     }
     Some((number, at))
+}
+
+// Whether four bytes of a text are digits.
+fn four_digits(text: &[u8], at: usize) -> bool
+    requires { at + 4 ≤ length text.now }
+    ensures { IsTrue result → (k : ℕ) → k < 4
+        → (48 ≤ get_or text.now (at + k) 0) × (get_or text.now (at + k) 0 ≤ 57) }
+{
+    is_digit(text[at]) & is_digit(text[at + 1]) & is_digit(text[at + 2]) & is_digit(text[at + 3])
 }
 
 /// A number with one digit more.
@@ -109,66 +117,41 @@ pub(crate) fn number_at(text: &[u8], from: usize) -> Option<(u64, usize)>
     digits_behind(text, from, from + 1, (first - b'0') as u64)
 }
 
-/// The same of any count of digits. Compiled apart, so that the way of numbers of a known count stays short.
-#[inline(never)]
-pub(crate) fn any_number_at(text: &[u8], from: usize) -> Option<(u64, usize)>
+// The number whose first eight digits stand at a place, and where its digits end.
+#[inline(always)]
+fn eight_at(text: &[u8], from: usize) -> Option<(u64, usize)>
+    requires within { from + 12 ≤ length text.now }
+    requires some { 49 ≤ get_or text.now from 0 }
+    requires first { (k : ℕ) → k < 4
+        → (48 ≤ get_or text.now (from + k) 0) × (get_or text.now (from + k) 0 ≤ 57) }
+    requires next { (k : ℕ) → k < 4
+        → (48 ≤ get_or text.now (from + 4 + k) 0) × (get_or text.now (from + 4 + k) 0 ≤ 57) }
     ensures { IfSome result (λ r. (r.1 ≤ length text.now) × (from < r.1) × (r.0 < 2 ^ 64)
         × (drop from text.now ≡ decimal r.0 ++ drop r.1 text.now)) }
-{
-    if let Some(found) = number_at(text, from) {
-        return Some(found);
-    }
-    long_number_at(text, from)
-}
-
-// The number of eight digits that stand at a place, the first of them no 0.
-#[inline(always)]
-fn eight_at(text: &[u8], from: usize) -> u64
-    requires within { from + 8 ≤ length text.now }
-    requires some { 49 ≤ get_or text.now from 0 }
-    requires digits { (k : ℕ) → k < 8
-        → (48 ≤ get_or text.now (from + k) 0) × (get_or text.now (from + k) 0 ≤ 57) }
-    ensures { Spells text.now from (from + 8) result }
 {
     let one = text[from] as u64 - b'0' as u64;
     let two = put_digit(text, from, from + 1, one);
     let three = put_digit(text, from, from + 2, two);
     let four = put_digit(text, from, from + 3, three);
-    put_four(text, from, from + 4, four)
-}
-
-// The number that so many digits begin, and where its digits end.
-#[inline(always)]
-fn digits_at(text: &[u8], from: usize, count: usize) -> Option<(u64, usize)>
-    requires within { from + 16 ≤ length text.now }
-    requires some { 49 ≤ get_or text.now from 0 }
-    requires many { 8 ≤ count }
-    requires digits { (k : ℕ) → k < count
-        → (48 ≤ get_or text.now (from + k) 0) × (get_or text.now (from + k) 0 ≤ 57) }
-    ensures { IfSome result (λ r. (r.1 ≤ length text.now) × (from < r.1) × (r.0 < 2 ^ 64)
-        × (drop from text.now ≡ decimal r.0 ++ drop r.1 text.now)) }
-{
-    let eight = eight_at(text, from);
-    if count < 12 {
-        return digits_behind(text, from, from + 8, eight);
+    let eight = put_four(text, from, from + 4, four);
+    if four_digits(text, from + 8) {
+        let twelve = put_four(text, from, from + 8, eight);
+        return digits_behind(text, from, from + 12, twelve);
     }
-    let twelve = put_four(text, from, from + 8, eight);
-    digits_behind(text, from, from + 12, twelve)
+    digits_behind(text, from, from + 8, eight)
 }
 
-/// The same, quickly where it has eight digits or more: they are looked at together.
-#[inline(always)]
+/// The same, quickly where it has eight digits or more: their bytes are tested together.
 pub(crate) fn wide_number_at(text: &[u8], from: usize) -> Option<(u64, usize)>
     requires { from ≤ length text.now }
     ensures { IfSome result (λ r. (r.1 ≤ length text.now) × (from < r.1) × (r.0 < 2 ^ 64)
         × (drop from text.now ≡ decimal r.0 ++ drop r.1 text.now)) }
 {
-    if text.len() - from < 16 || text[from] == b'0' {
-        return any_number_at(text, from);
+    if text.len() - from < 12 || text[from] == b'0' {
+        return number_at(text, from);
     }
-    let count = digits_in(text, from);
-    if count < 8 {
-        return any_number_at(text, from);
+    if four_digits(text, from) & four_digits(text, from + 4) {
+        return eight_at(text, from);
     }
-    digits_at(text, from, count)
+    number_at(text, from)
 }

@@ -13,8 +13,6 @@ ghost use Rattle.byte_tokens.specs.Left.{tokens_from, begins_at, closes_at, Ends
 ghost use Rattle.byte_tokens.specs.Listed.{number_tokens};
 ghost use Rattle.byte_tokens.specs.Spelled.{spelled_key, spelled_text};
 
-mod close;
-mod openings;
 mod runs;
 
 use super::between::{Before, behind_gap, behind_space, behind_value, ended_value};
@@ -22,7 +20,6 @@ use super::hexadecimal::hex_at;
 use super::listed::numbers_at;
 use super::numbers::{long_number_at, number_at, wide_number_at};
 use super::spelled::{byte_at, quoted, quoted_word_at, stands_at};
-pub use close::Width;
 use std::alloc::Global;
 use std::marker::Model;
 
@@ -262,9 +259,8 @@ impl<'a> Quick<'a> {
         Some(found)
     }
 
-    /// Takes a whole number, quickly where it has eight digits or more, as counts of minislots have: put where it is
-    /// called.
-    #[inline(always)]
+    /// Takes a whole number in the same way, quickly where it has eight digits or more, as counts of minislots have.
+    #[inline(never)]
     pub fn take_wide_number(&mut self) -> Option<u64>
         ensures { IfSome result (λ n. (n < 2 ^ 64)
             × (self.old ≡ number (decimal n) ∷ self.new)) }
@@ -273,7 +269,9 @@ impl<'a> Quick<'a> {
             return None;
         }
         let text = self.text.as_bytes();
-        let (found, at) = wide_number_at(text, self.at)?;
+        let Some((found, at)) = wide_number_at(text, self.at) else {
+            return self.take_long_number();
+        };
         let (at, before) = ended_value(text, at)?;
         self.at = at;
         self.before = before;

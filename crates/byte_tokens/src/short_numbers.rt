@@ -3,7 +3,7 @@
 ghost use Rattle.std.specs.Prelude.{◌≡◌, ◌+◌, ◌-◌, ◌^◌, ◌<◌, ◌≤◌, ◌++◌, length, drop, decimal, get_or, IfSome};
 ghost use Rattle.byte_tokens.specs.Spelled.{Spells};
 
-use crate::numbers::{any_number_at, is_digit, put_digit};
+use crate::numbers::{is_digit, put_digit};
 
 // A number whose digits end at a place.
 #[inline(always)]
@@ -46,10 +46,10 @@ fn behind_first(text: &[u8], from: usize, one: u64) -> Option<(u64, usize)>
     spelled_so(text, from, from + 5, five)
 }
 
-// The whole number of one to five digits that is spelled at a place, the first of them no 0 unless it is the only one,
-// and where its digits end.
+/// The whole number of one to five digits that is spelled at a place, the first of them no 0 unless it is the only one,
+/// and where its digits end.
 #[inline(always)]
-fn short_number_at(text: &[u8], from: usize) -> Option<(u64, usize)>
+pub(crate) fn short_number_at(text: &[u8], from: usize) -> Option<(u64, usize)>
     requires { from + 6 ≤ length text.now }
     ensures { IfSome result (λ r. (r.1 ≤ length text.now) × (from < r.1) × (r.0 < 2 ^ 64)
         × (drop from text.now ≡ decimal r.0 ++ drop r.1 text.now)) }
@@ -62,21 +62,4 @@ fn short_number_at(text: &[u8], from: usize) -> Option<(u64, usize)>
         return Some((0, from + 1));
     }
     behind_first(text, from, (first - b'0') as u64)
-}
-
-/// The whole number that is spelled at a place, and where its digits end: in fewest steps where it has one to five
-/// digits and more of the text stands behind them.
-#[inline(always)]
-pub(crate) fn few_digits_at(text: &[u8], from: usize) -> Option<(u64, usize)>
-    requires { from ≤ length text.now }
-    ensures { IfSome result (λ r. (r.1 ≤ length text.now) × (from < r.1) × (r.0 < 2 ^ 64)
-        × (drop from text.now ≡ decimal r.0 ++ drop r.1 text.now)) }
-{
-    if text.len() - from < 6 {
-        return any_number_at(text, from);
-    }
-    if let Some(found) = short_number_at(text, from) {
-        return Some(found);
-    }
-    any_number_at(text, from)
 }

@@ -14,7 +14,7 @@ use Rattle.call_reading.specs.Calls.{call_of}
 use Rattle.call_reading.specs.Field.{NotesMember}
 use Rattle.call_reading.specs.Seen.{Seen, nothing, seen_in, seen_with, seen_call, seen_ask, seen_heard, seen_build}
 use Rattle.call_reading.specs.Seen.{seen_remove, seen_status}
-use Rattle.call_reading.specs.Made.{SaysMembers, SayBefore, MakesCall, MakesObject}
+use Rattle.call_reading.specs.Made.{SaysMembers, SayBefore, MakesCall}
 use Rattle.call_reading.proofs.Seen.{seen_in-put, seen_call_is, none_opens}
 
 module _ (depth : ℕ) (start : List Token) where
@@ -103,23 +103,17 @@ pub some_too : {P Q : Call → Type 0} (o : Option Call) → ((call : Call) → 
 some_too None follows said = said
 some_too (Some call) follows said = follows call said
 
-module _ (depth : ℕ) (ts r : List Token) (call : Call) where
-  -- an object whose members make a call stands for it
-  pub call_is : 0 < depth → MakesObject (depth - 1) ts r call
-      → (d : Data) × (converted of_json (value depth ts) ≡ Some (d, r)) × (call_of d ≡ Some call)
-      × (get (codes "config") d ≡ None)
-  call_is some is =
-      let s = is.0 in
-      let made = is.2 in (
-        object made.0,
-        object_read depth ts r s made.0 some is.1 made.1.0,
-        seen_call_is made.0 call made.2,
-        none_opens made.0 made.3,
-      )
-
-  -- and fewer tokens are left
-  pub call_passed : MakesObject (depth - 1) ts r call → length r < length ts
-  call_passed is = subst (λ l. length r < length l) (sym is.1) (omega (arith, is.2.1.1))
+-- an object whose members make a call stands for it
+pub call_is : (depth : ℕ) (ts s r : List Token) (call : Call) → 0 < depth → ts ≡ Token.begin_object ∷ s
+    → MakesCall (depth - 1) s r call
+    → (d : Data) × (converted of_json (value depth ts) ≡ Some (d, r)) × (call_of d ≡ Some call)
+    × (get (codes "config") d ≡ None)
+call_is depth ts s r call some is made = (
+  object made.0,
+  object_read depth ts r s made.0 some is made.1.0,
+  seen_call_is made.0 call made.2,
+  none_opens made.0 made.3,
+)
 
 module _ (s : Seen) where
   -- a question for a flow's bytes, by its name

@@ -1,6 +1,6 @@
 -- The members of an object as they are read, and the call that they make. Only private clauses cite it.
-use Rattle.std.specs.Prelude.{◌≡◌, ◌<◌, ◌≤◌, ℕ, List, ◌∷◌, length, false, Some}
-use Rattle.json.specs.Token.{Token, begin_object}
+use Rattle.std.specs.Prelude.{◌≡◌, ◌<◌, ◌≤◌, ℕ, List, length, false, Some}
+use Rattle.json.specs.Token.{Token}
 use Rattle.json.specs.Json.{value, members}
 use Rattle.serde_json.specs.Data.{Members, no_members}
 use Rattle.serde_json.specs.Read.{of_members, converted}
@@ -24,7 +24,3 @@ SayBefore depth start ts s = (n : ℕ) × (length ts ≤ n) × ((so_far : Member
 abbrev pub MakesCall : ℕ → List Token → List Token → Call → Type 0
 MakesCall depth start r call = (ms : Members) × SaysMembers depth start r ms
     × (seen_call (seen_in ms) ≡ Some call) × (false ≡ (seen_in ms).opening)
-
--- an object stands first, with members nested no deeper than this, that makes this call and opens nothing
-abbrev pub MakesObject : ℕ → List Token → List Token → Call → Type 0
-MakesObject depth start r call = (s : List Token) × (start ≡ begin_object ∷ s) × MakesCall depth s r call

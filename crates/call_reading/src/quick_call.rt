@@ -10,12 +10,12 @@ ghost use Rattle.json_fields.specs.Plain.{data_of, members_of};
 ghost use Rattle.call_reading.specs.Calls.{call_of};
 ghost use Rattle.call_reading.specs.Field.{ranging_key, key_of, NotesMember};
 ghost use Rattle.call_reading.specs.Seen.{seen_of, seen_in, seen_with, nothing, IsNoted};
-ghost use Rattle.call_reading.specs.Made.{SaysMembers, MakesObject};
+ghost use Rattle.call_reading.specs.Made.{SaysMembers, MakesCall};
 
 use super::field::{Field, RangingField, known_field, other_field, read_name};
 use super::flow::flow_of;
 use super::found::{Found, Ranging, made, to_u8};
-use super::usual_call::{Close, Spaced, usual_call};
+use super::usual_call::usual_call;
 use byte_tokens::Quick;
 use json_fields::{Plain, Stop};
 use sched_calls::Call;
@@ -247,31 +247,17 @@ fn read_members<'a>(
     Ok(())
 }
 
-// The call that comes next, its members in any order. Compiled apart, so that the way of the usual calls stays short.
+// The call whose brace was taken, its members in any order. Compiled apart, so that the way of the usual calls stays
+// short.
 #[inline(never)]
 fn read_any_call(alloc: Global, reader: &mut Quick<'_>, depth: usize) -> Result<Call, Stop>
-    ensures { IfOk result (λ call. MakesObject depth reader.old reader.new call) }
+    ensures { IfOk result (λ call. MakesCall depth reader.old reader.new call) }
 {
-    if !reader.open_object() {
-        return Err(Stop::Unusual);
-    }
     let mut found = Found::nothing();
     read_members(alloc, reader, depth, &mut found)?;
     let Some(call) = made(&found) else {
         return Err(Stop::Unusual);
     };
-    Ok(call)
-}
-
-// The call that comes next, with spaces between its tokens, or its members in another order than the usual one.
-#[inline(never)]
-fn read_other_call(alloc: Global, reader: &mut Quick<'_>, depth: usize) -> Result<Call, Stop>
-    ensures { IfOk result (λ call. MakesObject depth reader.old reader.new call) }
-{
-    if let Some(call) = usual_call::<Spaced>(reader) {
-        return Ok(call);
-    }
-    let call = read_any_call(alloc, reader, depth)?;
     Ok(call)
 }
 
@@ -284,12 +270,14 @@ pub fn read_quick_call(alloc: Global, reader: &mut Quick<'_>, depth: usize) -> R
         × (call_of d ≡ Some call) × (get (codes "config") d ≡ None)) }
     ensures shorter { OnOk result (length reader.new < length reader.old) }
 {
-    if depth == 0 {
+    if depth == 0 || !reader.open_object() {
         return Err(Stop::Unusual);
     }
-    if let Some(call) = usual_call::<Close>(reader) {
+    let mut attempt = reader.again();
+    if let Some(call) = usual_call(&mut attempt) {
+        *reader = attempt;
         return Ok(call);
     }
-    let call = read_other_call(alloc, reader, depth - 1)?;
+    let call = read_any_call(alloc, reader, depth - 1)?;
     Ok(call)
 }

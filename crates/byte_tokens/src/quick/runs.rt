@@ -12,7 +12,7 @@ ghost use Rattle.byte_tokens.specs.Spelled.{spelled_run};
 use super::Quick;
 use crate::between::{Before, ended_value};
 use crate::blocks::long_word_at;
-use crate::short_numbers::few_digits_at;
+use crate::short_numbers::short_number_at;
 
 impl<'a> Quick<'a> {
     /// Takes a key, the text under it and the key behind that, which are spelled so with nothing between them, if they
@@ -40,11 +40,13 @@ impl<'a> Quick<'a> {
         ensures { IfSome result (λ n. (n < 2 ^ 64)
             × (self.old ≡ number (decimal n) ∷ self.new)) }
     {
-        if !self.before.may_begin() {
-            return None;
-        }
         let text = self.text.as_bytes();
-        let (found, at) = few_digits_at(text, self.at)?;
+        if !self.before.may_begin() || text.len() - self.at < 6 {
+            return self.take_number();
+        }
+        let Some((found, at)) = short_number_at(text, self.at) else {
+            return self.take_number();
+        };
         let (at, before) = ended_value(text, at)?;
         self.at = at;
         self.before = before;

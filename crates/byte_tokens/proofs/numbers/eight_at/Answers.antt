@@ -1,4 +1,4 @@
--- The first digit is that of the number, and four stand behind the first four.
+-- The first digit is that of the number.
 use Rattle.std.proofs.Common.{◌≡◌, ◌+◌, ◌-◌, ◌^◌, ◌<◌, ◌≤◌, drop, get_or, sym, subst, arith}
 use Rattle.byte_tokens.proofs.Bytes.{digit_first, next_byte}
 use Rattle.byte_tokens.proofs.numbers.eight_at.Goals as goal
@@ -10,7 +10,7 @@ put_digit-two-requires-clause-so_far c =
     let x = get_or text from 0 in
     let some = c.requires.some in
     let here : from + 0 ≡ from = omega arith in
-    let most : x ≤ 57 = subst (λ i. get_or text i 0 ≤ 57) here (c.requires.digits 0 (omega arith)).1 in
+    let most : x ≤ 57 = subst (λ i. get_or text i 0 ≤ 57) here (c.requires.first 0 (omega arith)).1 in
     let one : from + 1 - from ≡ 1 = omega arith in (
       omega arith,
       omega (arith, c.requires.within),
@@ -21,10 +21,3 @@ put_digit-two-requires-clause-so_far c =
             (next_byte text from (omega (arith, c.requires.within))),
       ),
     )
-
-pub put_four-requires-clause-digits : goal.put_four-requires-clause-digits
-put_four-requires-clause-digits c k few =
-    let text = c.args.text.now in
-    let place : c.args.from + (4 + k) ≡ c.args.from + 4 + k = omega arith in
-    subst (λ i. (48 ≤ get_or text i 0) × (get_or text i 0 ≤ 57)) place
-    (c.requires.digits (4 + k) (omega (arith, few)))

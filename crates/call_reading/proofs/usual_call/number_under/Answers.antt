@@ -5,9 +5,10 @@ use Rattle.call_reading.specs.Field.{key_of}
 use Rattle.call_reading.proofs.usual_call.number_under.Goals as goal
 
 pub returns : goal.returns
-returns g c =
+returns c =
     let field = c.args.field in
     let n = c.in_ok-number.number in
     let taken = c.in_ok-number.ensures in
-    λ depth s. number_noted depth c.args.reader.now c.take_key.new.reader c.take_number.new.reader s (key_of field) n
-    (c.take_key.ensures c.if-not-take_key.false (key_of field) (plain_key field) c.requires) taken.0 taken.1
+    λ depth s. number_noted depth c.args.reader.now c.take_spelled_key.new.self c.take_short_number.new.self s
+    (key_of field) n ((rw c.if-not-take_spelled_key.false at c.take_spelled_key.ensures)
+    (key_of field) (plain_key field) c.requires) taken.0 taken.1

@@ -1,6 +1,7 @@
 -- The name and the number behind it are noted, and make the call.
-use Rattle.std.proofs.Common.{◌≡◌, ◌∷◌, codes, refl, sym, ◌∙◌}
+use Rattle.std.proofs.Common.{◌≡◌, ◌∷◌, codes, refl, sym, ap, ◌∙◌}
 use Rattle.json.specs.Token as token
+use Rattle.json.specs.Json.{read_key}
 use Rattle.serde_json.specs.Data.{string, number, unsigned}
 use Rattle.call_reading.specs.declared.field.Field.TheVariants.{Sid}
 use Rattle.call_reading.specs.Seen.{nothing, seen_with, seen_remove}
@@ -10,25 +11,22 @@ use Rattle.call_reading.proofs.usual_call.usual_remove.Goals as goal
 
 pub returns : goal.returns
 unfolding seen_remove
-returns g c = λ depth.
+returns c = λ depth.
     let ts = c.args.reader.now in
-    let r1 = c.open_named.new.reader in
-    let r2 = token.end_object ∷ c.take_last.new.reader in
+    let r1 = c.take_named.new.reader in
+    let r2 = c.take_short_number.new.self in
+    let first : ts ≡ token.key (codes "call") ∷ token.string (codes "remove") ∷ token.key (codes "sid") ∷ r1 =
+    c.take_named.ensures c.if-not-take_named.false (codes "remove") Sid plain_remove refl refl refl in
     let left = token.key (codes "sid") ∷ r1 in
-    let s = token.key (codes "call") ∷ token.string (codes "remove") ∷ left in
-    let first : ts ≡ token.begin_object ∷ s =
-    c.open_named.ensures c.if-not-open_named.false (codes "remove") Sid plain_remove refl refl refl in
     let n = c.in_ok-sid.sid in
     let taken = c.in_ok-sid.ensures in
     let a = seen_with (codes "call") (string (codes "remove")) nothing in
     let b = seen_with (codes "sid") (number (unsigned n)) a in
-    let name = name_noted depth s (token.string (codes "remove") ∷ left) left nothing (codes "remove") refl refl in
-    let said = number_noted depth left r1 r2 a (codes "sid") n refl taken.0 taken.1 in (
-      s,
-      first,
-      call_ends depth s r2 c.take_last.new.reader b c.in_ok-call.call
-          (one_more depth s left r2 a b (one_more depth s s left nothing a (none_said depth s) name) said)
-          refl
-          (remove_named b refl ∙ sym c.in_ok-call.ensures)
-          refl,
-    )
+    let name = name_noted depth ts (token.string (codes "remove") ∷ left) left nothing (codes "remove")
+    (ap read_key first) refl in
+    let said = number_noted depth left r1 r2 a (codes "sid") n refl taken.0 taken.1 in
+    call_ends depth ts r2 c.take_end_object.new.self b c.in_ok-call.call
+    (one_more depth ts left r2 a b (one_more depth ts ts left nothing a (none_said depth ts) name) said)
+    (ap read_key (rw c.if-not-take_end_object.false at c.take_end_object.ensures))
+    (remove_named b refl ∙ sym c.in_ok-call.ensures)
+    refl

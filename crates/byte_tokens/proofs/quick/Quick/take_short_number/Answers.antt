@@ -10,9 +10,9 @@ pub returns : goal.returns
 returns c =
     let a = c.self.inside in
     let text = a.text.now in
-    let n = c.in_ok-found.found in
-    let at = c.in_ok-found.at in
-    let found = c.in_ok-found.ensures in
+    let n = c.in-Some.found in
+    let at = c.in-Some.at in
+    let found = c.in-Some.ensures in
     let same = c.as_bytes-text.ensures.value in
     let r = c.in_ok-at in
     let spelled : drop a.at text ≡ decimal n ++ drop at text =
