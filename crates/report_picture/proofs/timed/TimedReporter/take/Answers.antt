@@ -4,6 +4,7 @@ use Rattle.std.proofs.lemmas.Bool.{cases_lt}
 use Rattle.std.proofs.lemmas.List.{length_push}
 use Rattle.frame_picture.specs.Frames.{Frame}
 use Rattle.sched_calls.specs.declared.reply.TheConstants.{MAX_WHOLE_HISTORY}
+use Rattle.sched_history.specs.History.{IsStep}
 use Rattle.sched_report.specs.declared.totals.Totals.{Totals}
 use Rattle.sched_report.specs.Uses.{slots_of}
 use Rattle.sched_report.specs.Window.{Window, frames_told}
@@ -69,3 +70,9 @@ invariant_of-self-in_default c =
       short = omega (arith, short, length_push h e);
       passed = omega (arith, i.passed, length_push h e);
     })
+
+-- an entry that is taken is a step
+pub returns-in-Built-clause-step : goal.returns-in-Built-clause-step
+returns-in-Built-clause-step c =
+    subst (λ (w : Window). IsStep w.config w.history c.args.entry.now.call c.args.entry.now.reply) c.self.view_is
+    c.in_ok-take.ensures.step
