@@ -1,5 +1,9 @@
 -- What is told begins where it is due.
-use Rattle.std.proofs.Common.{◌≡◌, ◌*◌, Bool, true, false, length, sym, ap, ◌∙◌, subst}
+use Rattle.std.proofs.Common.{◌≡◌, ◌*◌, Bool, true, false, List, length, refl, sym, ap, ◌∙◌, subst, IsErrOf}
+use Rattle.minislots.specs.declared.config.Config.{Config}
+use Rattle.sched_calls.specs.declared.reply.Entry.{Entry}
+use Rattle.sched_history.specs.declared.fault.JudgeFault.TheVariants.{Illegal}
+use Rattle.sched_history.specs.History.{IsStep}
 use Rattle.std.specs.Prelude.{nat_le}
 use Rattle.sched_report.specs.Window.{Window}
 use Rattle.report_command.specs.Range.{Ranged, ticks_after, ends_here, is_over, IsRanged}
@@ -46,3 +50,19 @@ invariant_of-self c =
           (rw b.self-inside-is at c.take.ensures.taken) (rw b.self-inside-is at c.take.ensures.err)
           (ranged-more s.config r s.begun w e going early c.self.invariant) c.self.invariant)
     ]
+
+-- an entry that is illegal is no step
+pub returns-clause-illegal : goal.returns-clause-illegal
+returns-clause-illegal c =
+    let w = c.self.inside.timed in
+    let e = c.args.entry.now in
+    let t = c.if-is_due.self-inside.timed in
+    let same : (t.config ≡ w.config) × (t.history ≡ w.history) = elim c.if-is_due.branch [
+      | then-is_due+then-not-self b ↦ rw b.self-inside-is
+          (ap (λ (v : Window). v.config) b.renew.ensures, ap (λ (v : Window). v.history) b.renew.ensures)
+      | else-is_due b ↦ rw b.self-inside-is (refl, refl)
+    ] in
+    subst (λ (v : Ranged). IsErrOf c.take.result Illegal → IsStep v.config v.history e.call e.reply → ⊥) c.self.view_is
+    (subst (λ (k : Config). IsErrOf c.take.result Illegal → IsStep k w.history e.call e.reply → ⊥) same.0
+    (subst (λ (h : List Entry). IsErrOf c.take.result Illegal → IsStep t.config h e.call e.reply → ⊥) same.1
+    c.take.ensures.illegal))
