@@ -6,4 +6,3 @@ pub mod GoingOn
 pub mod Places
 pub mod Quiet
 pub mod Sound
-pub mod Opening

@@ -13,7 +13,6 @@ pub mod Headers
 pub mod Settling
 pub mod Reserves
 pub mod Situation
-pub mod Opening
 pub mod Refusal
 pub mod History
 pub use Rattle.sched_calls.specs.Reply

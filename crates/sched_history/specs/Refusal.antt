@@ -12,7 +12,8 @@ use Rattle.flow_book.specs.Flows.{LiveFlow, flow_of}
 use Rattle.flow_book.specs.Book.{without}
 use Rattle.map_build.specs.Purpose.{broadcast}
 use Rattle.sched_calls.specs.declared.opportunity.Usage.{Usage}
-use Rattle.sched_calls.specs.declared.opportunity.Usage.TheVariants.{Initial, InitialTo, Station, Request, Quiet, DataTo}
+use Rattle.sched_calls.specs.declared.opportunity.Usage.TheVariants.{Initial, InitialTo, Station, Request, Quiet}
+use Rattle.sched_calls.specs.declared.opportunity.Usage.TheVariants.{DataTo}
 use Rattle.sched_calls.specs.declared.call.TheConstants.{MAX_RESERVES}
 use Rattle.sched_calls.specs.declared.call.Call.{Call}
 use Rattle.sched_calls.specs.declared.call.Call.TheVariants.{Admit, Remove, Ask, Heard, Build, Skip, Status}
@@ -124,7 +125,8 @@ refusal_in c s (Admit sid spec) = first_of (
     refused_if (nat_le c.flows (length s.flows)) FlowsFull ∷
     refused_if (is_periodic spec && nat_lt c.periodic
     (interval_grants s.flows + grants_of spec)) PeriodicFull ∷ [])
-refusal_in c s (Remove sid) = first_of (refused_if (bad_sid sid) BadSid ∷ refused_if (not (is_live sid s.flows)) NoFlow ∷ [])
+refusal_in c s (Remove sid) = first_of (refused_if (bad_sid sid) BadSid ∷ refused_if (not
+    (is_live sid s.flows)) NoFlow ∷ [])
 refusal_in c s (Ask receiver sid amount heard) = first_of (
     refused_if (bad_sid sid) BadSid ∷
     refused_if (not (is_live sid s.flows)) NoFlow ∷
@@ -175,7 +177,8 @@ refusal_in c s (Reserve usage slots) = first_of (
 refusal_in c s (Header header) = refused_if
     (is_wide header.ranging_start || is_wide header.ranging_end || is_wide header.data_start
     || is_wide header.data_end) BadBackoff
-refusal_in c s (Status sid) = first_of (refused_if (bad_sid sid) BadSid ∷ refused_if (not (is_live sid s.flows)) NoFlow ∷ [])
+refusal_in c s (Status sid) = first_of (refused_if (bad_sid sid) BadSid ∷ refused_if (not
+    (is_live sid s.flows)) NoFlow ∷ [])
 
 -- the first refusal of a call after a history
 abbrev pub refusal_of : Config → List Entry → Call → Option Refusal

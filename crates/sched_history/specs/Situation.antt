@@ -5,6 +5,7 @@ use Rattle.std.specs.Option.{option_map_or}
 use Rattle.minislots.specs.declared.config.Config.{Config}
 use Rattle.sched_calls.specs.Amount.{requested}
 use Rattle.sched_calls.specs.declared.opportunity.Header.{Header}
+use Rattle.sched_calls.specs.Header.{header_of}
 use Rattle.flow_book.specs.Flows.{LiveFlow, flow_of}
 use Rattle.flow_book.specs.Book.{with_flow, without, changed, new_flow, with_asked, with_replaced, with_spec}
 use Rattle.periodic.specs.declared.placement.Spot.{Spot}
@@ -50,6 +51,20 @@ situation_of c h = record {
   header = header_after c h;
   settling = settling_after c h;
   ack = last_ack c h;
+}
+
+-- what is left where nothing was called
+abbrev pub opening : Config → Situation
+opening c = record {
+  entries = 0;
+  flows = [];
+  placed = [];
+  next = c.start;
+  progress = map (λ receiver. c.start) (count_from 0 c.receivers);
+  reserves = [];
+  header = header_of c;
+  settling = record { count = c.ucd_count; change = None };
+  ack = c.start;
 }
 
 -- what the live flow of this SID has: its parameters, and its placement where it is placed

@@ -17,7 +17,8 @@ use Rattle.sched_calls.specs.declared.reply.Reply.TheVariants as replies
 use Rattle.sched_calls.specs.declared.reply.Entry.{Entry}
 use Rattle.sched_history.specs.Reserves.{last_map, IsReserve, waiting_in, reserves_of, met_by, met_after, spots_after}
 use Rattle.sched_history.specs.History.{demand_after, IsNextMap, IsStep, IsLegal}
-use Rattle.sched_history.specs.Ranging.{offers_by, StandsIn, IsMetThere, MeetsWaiting, MeetsFirst, HasWhatItMeets, HasNoOther}
+use Rattle.sched_history.specs.Ranging.{offers_by, StandsIn, IsMetThere, MeetsWaiting, MeetsFirst, HasWhatItMeets}
+use Rattle.sched_history.specs.Ranging.{HasNoOther}
 use Rattle.sched_history.specs.Ranging.{header_in, HasLatestHeader, HoldsForRanging}
 use Rattle.sched_history.proofs.steps.LegalHistories.{IsNextMap-from_step, EachAfter-from_legal}
 use Rattle.sched_history.proofs.reserves.GoodReserves.{reserves_of-good, reserves_of-few, MayWait-legal}
@@ -44,9 +45,11 @@ module _ (c : Config) where
       let d : Demand = demand_after c h in
       let next : IsNextMap c h m = IsNextMap-from_step c h call m step in
       let same = met_after-next h m legal next in
-      let gaps : AllByRecursion (λ (p : Opportunity). HasGap c (spots_after c h) p.slots) (offers_by c h (replies.Built m)) =
+      let gaps : AllByRecursion (λ (p : Opportunity). HasGap c (spots_after c h) p.slots) (offers_by c h
+      (replies.Built m)) =
       all-offers c h (reserves_of c h) m.wire.elements (λ p. HasGap c (spots_after c h) p.slots)
-      (λ x has p at. plan-gap c d unsettled next.0 next.1 x p (subst (λ (met : List Met). Contains met x) same has) at) in (
+      (λ x has p at. plan-gap c d unsettled next.0 next.1 x p (subst (λ
+          (met : List Met). Contains met x) same has) at) in (
         rw same (plan-first c d unsettled next.0 next.1 o waits
             (waiting-some d.waiting 0 o (MayWait-legal c h legal).some_slots waits)),
         (λ has. All-contains (λ (p : Opportunity). HasGap c (spots_after c h) p.slots)

@@ -1,5 +1,6 @@
 -- What is left of a flow is that of its life.
-use Rattle.std.proofs.Common.{◌≡◌, ℕ, zero, suc, ◌+◌, ◌<◌, Bool, true, false, ◌==◌, List, find, map, get_or, slice_index}
+use Rattle.std.proofs.Common.{◌≡◌, ℕ, zero, suc, ◌+◌, ◌<◌, Bool, true, false, ◌==◌, List, find, map, get_or}
+use Rattle.std.proofs.Common.{slice_index}
 use Rattle.std.proofs.Common.{Option, None, Some, refl, ap, ◌∙◌, arith}
 use Rattle.std.specs.Prelude.{is_some}
 use Rattle.std.specs.Option.{option_map, option_and_then}
@@ -8,7 +9,8 @@ use Rattle.flow_book.specs.Flows.{LiveFlow, flow_of}
 use Rattle.sched_calls.specs.declared.placement.Placement.{Placement}
 use Rattle.periodic.specs.Placement.{count_from, Placed}
 use Rattle.sched_calls.specs.declared.reply.Entry.{Entry}
-use Rattle.sched_history.specs.Life.{Admission, Life, life_of, given_in, rests_in, flow_in_life, placed_in_life, flows_of}
+use Rattle.sched_history.specs.Life.{Admission, Life, life_of, given_in, rests_in, flow_in_life, placed_in_life}
+use Rattle.sched_history.specs.Life.{flows_of}
 use Rattle.sched_history.specs.Time.{progress_of}
 use Rattle.sched_history.specs.Situation.{situation_of, given_of}
 use Rattle.sched_history.specs.Refusal.{bad_sid, is_live}
@@ -59,7 +61,8 @@ module _ (c : Config) (h : List Entry) (sid : ℕ) (good : bad_sid sid ≡ false
   -- what its flow has is what its life was given
   pub given_of-left : given_of sid (situation_of c h) ≡ option_map (given_in sid) (life_of sid h)
   given_of-left =
-      rw (flow_of-left, find-table_of sid h (good_sid sid good).0 (good_sid sid good).1) (given-life c sid (life_of sid h))
+      rw (flow_of-left, find-table_of sid h (good_sid sid good).0 (good_sid sid good).1) (given-life c sid
+          (life_of sid h))
 
   pub given_of-life : (life : Life) → life_of sid h ≡ Some life
       → given_of sid (situation_of c h) ≡ Some (given_in sid life)

@@ -50,7 +50,8 @@ admitted-pairs c s (Unsolicited size interval jitter grants) placement answers =
     placed-pairs c s (Unsolicited size interval jitter grants) placement answers
 admitted-pairs c s (Polled interval jitter rate burst peak) placement answers =
     placed-pairs c s (Polled interval jitter rate burst peak) placement answers
-admitted-pairs c s (BestEffort priority rate burst peak reserved reserved-burst) placement answers = unplaced-pairs placement answers
+admitted-pairs c s (BestEffort priority rate burst peak reserved reserved-burst) placement answers = unplaced-pairs
+    placement answers
 
 step-pairs : (c : Config) (s : Situation) (spec : FlowSpec) (placement : Option Placement) (o : Option Refusal)
     → MatchOption o (AnswersAdmit c s spec (replies.Admitted placement))
@@ -110,7 +111,8 @@ given-pairs : (c : Config) → IsGivenSo c (λ h sid a. IsPaired a)
 given-pairs c = record {
   stays = λ h e sid a step paired. paired;
   begins = λ h e sid a step is. begins-pairs c h e.call e.reply step sid a is;
-  changes = λ h e sid life a legal step change paired. change-pairs c (situation_of c h) sid (given_in sid life) a change.answers;
+  changes = λ h e sid life a legal step change paired. change-pairs c (situation_of c h) sid
+      (given_in sid life) a change.answers;
 }
 
 -- in a legal history a life has a place where its flow is periodic

@@ -119,5 +119,6 @@ module _ (c : Config) (Q : List Entry → ℕ → Admission → Type 0) (so : Is
   -- each life of a legal history is given so
   pub lives-given : (h : List Entry) → IsLegal c h → AreGivenSo h
   lives-given = legal_induction c AreGivenSo
-      (λ h e legal step each sid life lives. turned h e sid (turn_by sid e.call e.reply) life refl lives legal step each)
+      (λ h e legal step each sid life lives. turned h e sid
+          (turn_by sid e.call e.reply) life refl lives legal step each)
       (λ sid life none. absurd (cc))

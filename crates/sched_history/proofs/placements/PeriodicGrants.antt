@@ -18,8 +18,8 @@ use Rattle.map_build.specs.Plan.{grants_to, flow_after}
 use Rattle.map_build.proofs.FlowsAfter.{with_grants-is}
 use Rattle.sched_calls.specs.declared.reply.Entry.{Entry}
 use Rattle.sched_history.specs.Life.{flows_of}
-use Rattle.sched_history.specs.Time.{next_after}
-use Rattle.sched_history.specs.Refusal.{periodic_grants, other_grants}
+use Rattle.sched_history.specs.Situation.{Situation, situation_of}
+use Rattle.sched_history.specs.Refusal.{interval_grants, periodic_grants}
 use Rattle.sched_history.specs.History.{IsLegal}
 use Rattle.sched_history.proofs.lives.Finding.{flows_of-channel}
 use Rattle.sched_history.proofs.lives.LiveFlows.{flows_of-none}
@@ -74,7 +74,8 @@ changed-few : (spec : FlowSpec) (n others most : ℕ) → n ≤ others + grants_
     → (is_periodic spec ≡ true → others + grants_of spec ≤ most) → others ≤ most → n ≤ most
 changed-few (Unsolicited size interval jitter grants) n others most sum room few = omega (arith, sum, room refl)
 changed-few (Polled interval jitter rate burst peak) n others most sum room few = omega (arith, sum, room refl)
-changed-few (BestEffort priority rate burst peak reserved reserved-burst) n others most sum room few = omega (arith, sum, few)
+changed-few (BestEffort priority rate burst peak reserved reserved-burst) n others most sum room few = omega
+    (arith, sum, few)
 
 -- a flow of another SID stays
 same-above : (sid : ℕ) (spec : FlowSpec) (f : LiveFlow) → sid < f.sid
@@ -118,34 +119,35 @@ few-more (Polled interval jitter rate burst peak) n most room few = omega (arith
 few-more (BestEffort priority rate burst peak reserved reserved-burst) n most room few = omega (arith, few)
 
 module _ (c : Config) (lawful : IsLawful c) where
-  few-after : (h new : List Entry) → EntryChange c h new → periodic_grants c h ≤ c.periodic
-      → periodic_grants c new ≤ c.periodic
-  few-after h new change few =
+  few-after : (x y : Situation) → EntryChange c x y → Ascend x.flows → interval_grants x.flows ≤ c.periodic
+      → interval_grants y.flows ≤ c.periodic
+  few-after x y change up few =
       let own : LiveFlow → ℕ = λ f. grants_of f.spec in
       elim change [
         | Nothing flows next ↦ rw flows few
         | Asked sid bytes heard most flows next ↦ rw (
           flows,
-          sum_by-map own (λ f. if f.sid == sid then with_asked bytes heard f else f) (flows_of c h)
+          sum_by-map own (λ f. if f.sid == sid then with_asked bytes heard f else f) x.flows
               (λ f. asked-spec (f.sid == sid) bytes heard f),
         ) few
         | Replaced sid bytes heard most flows next ↦ rw (
           flows,
-          sum_by-map own (λ f. if f.sid == sid then with_replaced bytes heard f else f) (flows_of c h)
+          sum_by-map own (λ f. if f.sid == sid then with_replaced bytes heard f else f) x.flows
               (λ f. replaced-spec (f.sid == sid) bytes heard f),
         ) few
         | Changed sid spec may flows next ↦
-            rw flows (changed-few spec (sum_by own (changed sid (with_spec spec) (flows_of c h))) (other_grants c sid h)
-            c.periodic (changed-sum sid spec (flows_of c h) (flows_of-channel c h).ascend) may.few_grants
-            (omega (arith, few, sum_by-filter own (λ f. not (f.sid == sid)) (flows_of c h))))
-        | Began sid spec may flows next ↦ rw (flows, sum_by-with_flow own (new_flow sid spec) (flows_of c h))
-            (few-more spec (periodic_grants c h) c.periodic may.few_grants few)
+            rw flows (changed-few spec (sum_by own (changed sid (with_spec spec) x.flows)) (interval_grants
+                (without sid x.flows))
+            c.periodic (changed-sum sid spec x.flows up) may.few_grants
+            (omega (arith, few, sum_by-filter own (λ f. not (f.sid == sid)) x.flows)))
+        | Began sid spec may flows next ↦ rw (flows, sum_by-with_flow own (new_flow sid spec) x.flows)
+            (few-more spec (interval_grants x.flows) c.periodic may.few_grants few)
         | Ended sid flows next ↦
-            rw flows (omega (arith, few, sum_by-filter own (λ f. not (f.sid == sid)) (flows_of c h)))
+            rw flows (omega (arith, few, sum_by-filter own (λ f. not (f.sid == sid)) x.flows))
         | Described m map flows next most ↦ rw (
           flows,
-          sum_by-map own (flow_after c (next_after c h) map.0) (flows_of c h)
-              (λ f. ap own (with_grants-is c (grants_to (next_after c h) f.sid map.0) f)),
+          sum_by-map own (flow_after c x.next map.0) x.flows
+              (λ f. ap own (with_grants-is c (grants_to x.next f.sid map.0) f)),
         ) few
         | Skipped start flows next later whole most ↦ rw flows few
       ]
@@ -154,5 +156,6 @@ module _ (c : Config) (lawful : IsLawful c) where
   pub periodic_grants-few : (h : List Entry) → IsLegal c h → periodic_grants c h ≤ c.periodic
   periodic_grants-few =
       legal_induction c (λ h. periodic_grants c h ≤ c.periodic)
-      (λ h e legal step few. few-after h (h ++ e ∷ []) (change_of c h e lawful step) few)
+      (λ h e legal step few. few-after (situation_of c h) (situation_of c (h ++ e ∷ []))
+      (change_of c h e lawful step) (flows_of-channel c h).ascend few)
       (let none : flows_of c [] ≡ [] = flows_of-none c [] (λ sid. refl) in rw none (omega arith))

@@ -111,7 +111,8 @@ later_placed c slot later spec p le was =
     }
 
 -- an accepted change places anew what it places
-pub changed_place : (c : Config) (s : Situation) (sid : ℕ) (spec : FlowSpec) (placement : Option Placement) (p : Placement)
+pub changed_place : (c : Config) (s : Situation) (sid : ℕ) (spec : FlowSpec) (placement : Option Placement)
+    (p : Placement)
     → placement ≡ Some p → PlacesAnew c s sid spec (replies.Changed placement)
     → IsPlacement c (without sid s.placed) spec s.next p
 changed_place c s sid spec placement p at (inl (q, lawful, is)) =
@@ -137,7 +138,8 @@ module _ (c : Config) where
       subst (λ r. IsStep c h (calls.Admit sid a.spec) r) admits.answered
       (subst (λ k. IsStep c h k e.reply) admits.asked step) in
       let answers = accepted c h (calls.Admit sid a.spec) (replies.Admitted a.placement) (λ r refuses. cc) step' in
-      let now : IsPlacedNow c (situation_of c h) a.spec p = answered_place c (situation_of c h) a.spec a.placement p at answers.1 in
+      let now : IsPlacedNow c (situation_of c h) a.spec p = answered_place c
+      (situation_of c h) a.spec a.placement p at answers.1 in
       record {
         table = table_of h;
         since = next_after c h;
@@ -150,7 +152,8 @@ module _ (c : Config) where
   -- a life that has other parameters
   place_changes : (h : List Entry) (e : Entry) (sid : ℕ) (given a : Admission) (p : Placement)
       → IsStep c h e.call e.reply → ChangesFlow c (situation_of c h) sid a.spec → a.placement ≡ Some p
-      → AnswersChange c (situation_of c h) sid given a.spec (replies.Changed a.placement) → WasPlacedIn c (next_after c h) given
+      → AnswersChange c (situation_of c h) sid given a.spec (replies.Changed a.placement)
+      → WasPlacedIn c (next_after c h) given
       → WasPlaced c (next_after c (h ++ e ∷ [])) a.spec p
   place_changes h e sid given a p step may at (inl (same, (q, told, is))) was =
       let alike = alike-placed c given.spec a.spec same in
@@ -178,7 +181,8 @@ module _ (c : Config) where
   places-given : IsGivenSo c (λ h sid a. WasPlacedIn c (next_after c h) a)
   places-given = record {
     stays = λ h e sid a step was p at.
-        later_placed c (next_after c h) (next_after c (h ++ e ∷ [])) a.spec p (next_after-ascends c h e step) (was p at);
+        later_placed c (next_after c h) (next_after c (h ++ e ∷ [])) a.spec p (next_after-ascends c h e step)
+            (was p at);
     begins = place_begins;
     changes = λ h e sid life a legal step change was p at.
         place_changes h e sid (given_in sid life) a p step change.passed at change.answers was;

@@ -102,7 +102,8 @@ module _ (c : Config) (conf : IsLawful c) where
     few-kept sid spec p given rests k None is found same told = absurd told
     few-kept sid spec p given rests k (Some stands) is found same told =
         let old : Placed = record { sid = sid; spec = given.spec; placement = stands; rests = rests } in
-        let takes = spots-told c given.spec spec stands p (next_after c h) (alike-placed c given.spec spec same) told k sid
+        let takes = spots-told c given.spec spec stands p (next_after c h)
+        (alike-placed c given.spec spec same) told k sid
         old refl refl refl in
         omega (
           arith,
@@ -146,7 +147,8 @@ module _ (c : Config) (conf : IsLawful c) where
         rw (table_of-change_placed stamp h sid spec lives.0 lives.1 p good.0 good.1)
         (few-given sid spec p (given_in sid lives.0) (rests_in sid lives.0.since) k
         (find-table_of sid h good.0 good.1 ∙ ap (option_and_then (placed_in_life sid)) lives.1)
-        (subst (λ o. MatchOption o ⊥ (λ given. AnswersChange c (situation_of c h) sid given spec (replies.Changed (Some p))))
+        (subst (λ o. MatchOption o ⊥ (λ given. AnswersChange c (situation_of c h) sid given spec (replies.Changed
+            (Some p))))
         (given_of-life c h sid known.good lives.0 lives.1) both.1))
 
     unchanged : (sid : ℕ) (spec : FlowSpec) → IsStep c h (calls.Change sid spec) (replies.Changed None)

@@ -1,5 +1,6 @@
 -- The Reserves of a legal history: each was accepted, and they are at most 64.
-use Rattle.std.proofs.Common.{◌≡◌, ℕ, zero, suc, ◌+◌, ◌-◌, ◌^◌, ◌<◌, ◌≤◌, Bool, true, false, not, ◌||◌, ◌&&◌, ◌==◌, nat_lt, if◌then◌else◌, List, [], ◌∷◌}
+use Rattle.std.proofs.Common.{◌≡◌, ℕ, zero, suc, ◌+◌, ◌-◌, ◌^◌, ◌<◌, ◌≤◌, Bool, true, false, not, ◌||◌, ◌&&◌, ◌==◌}
+use Rattle.std.proofs.Common.{nat_lt, if◌then◌else◌, List, [], ◌∷◌}
 use Rattle.std.proofs.Common.{map, take, length, refl, ap, arith}
 use Rattle.std.specs.List.{AllByRecursion}
 use Rattle.std.proofs.lemmas.Bool.{cond_both}
@@ -10,7 +11,8 @@ use Rattle.flow_book.proofs.Order.{all-push}
 use Rattle.map_build.specs.declared.TheConstants.{MAX_WAITING}
 use Rattle.sched_calls.specs.declared.opportunity.Opportunity.{Opportunity}
 use Rattle.sched_calls.specs.declared.opportunity.Usage.{Usage}
-use Rattle.sched_calls.specs.declared.opportunity.Usage.TheVariants.{Initial, InitialTo, Station, Request, Quiet, DataTo}
+use Rattle.sched_calls.specs.declared.opportunity.Usage.TheVariants.{Initial, InitialTo, Station, Request, Quiet}
+use Rattle.sched_calls.specs.declared.opportunity.Usage.TheVariants.{DataTo}
 use Rattle.map_build.specs.Purpose.{broadcast, sid_for}
 use Rattle.map_build.specs.Opportunities.{HaveElementSids, MayWait}
 use Rattle.sched_history.specs.declared.scheduler.reserves.Reserve.{Reserve}

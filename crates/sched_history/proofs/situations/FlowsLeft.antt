@@ -39,17 +39,8 @@ use Rattle.sched_history.proofs.flows.Quiet.{quiet-rest, quiet-wake}
 use Rattle.sched_history.proofs.flows.Admissions.{flows_of-admit, table_of-admit_placed, table_of-admit_unplaced}
 use Rattle.sched_history.proofs.flows.BuildCall.{flows_of-build_next}
 use Rattle.sched_history.proofs.flows.Refused.{flows_of-refused, table_of-refused}
+use Rattle.sched_history.proofs.situations.Quiet.{flows_by-refused, placed_by-refused}
 use Rattle.sched_history.proofs.steps.Passed.{AdmitsFlow, ChangesFlow, passed-admit, passed-change}
-
-flows_by-refused : (c : Config) (call : Call) (refusal : Refusal) (flows : List LiveFlow)
-    → flows_by c call (replies.Refused refusal) flows ≡ flows
-flows_by-refused c (calls.Admit sid spec) refusal flows = refl
-flows_by-refused c call refusal flows = refl
-
-placed_by-refused : (call : Call) (refusal : Refusal) (placed : List Placed)
-    → placed_by call (replies.Refused refusal) placed ≡ placed
-placed_by-refused (calls.Admit sid spec) refusal placed = refl
-placed_by-refused call refusal placed = refl
 
 -- The flows of a history with one call more are those that the call leaves
 pub record LeavesSo (c : Config) (stamp : Stamp) (h : List Entry) (call : Call) (reply : Reply) : Type 0 where
@@ -175,7 +166,8 @@ module _ (c : Config) (stamp : Stamp) (h : List Entry) where
       let has = plan-HasBytes c (demand_after c h) next.0 next.1 in
       record {
         flows = flows_of-build_next stamp h now m c next
-            ∙ map-each (flow_after c (next_after c h) next.0) (λ f. with_grants c (grants_of_map f.sid m) f) (flows_of c h)
+            ∙ map-each (flow_after c (next_after c h) next.0) (λ f. with_grants c (grants_of_map f.sid m) f)
+                (flows_of c h)
             (λ f. ap (λ grants. with_grants c grants f) (sym (ap (grants_of_map f.sid) next.2
             ∙ grants_of_map-plan f.sid c (demand_after c h) (header_after c h) (ack_after c h) next.0 has)));
         placed = table_of-stays h e (λ other. refl) (λ other. refl) (λ other. refl);
@@ -201,7 +193,8 @@ module _ (c : Config) (stamp : Stamp) (h : List Entry) where
         placed = table_of-replace stamp h receiver sid amount heard;
       })
   answered (calls.Change sid spec) reply none answers =
-      changes sid spec (passed-change c (situation_of c h) sid spec none) (given_of sid (situation_of c h)) reply answers
+      changes sid spec (passed-change c (situation_of c h) sid spec none) (given_of sid
+          (situation_of c h)) reply answers
   answered (calls.Rest sid) reply none answers =
       by_reply (calls.Rest sid) reply replies.Noted answers (record {
         flows = flows_of-quiet c h (entry (calls.Rest sid) replies.Noted) (quiet-rest c sid);

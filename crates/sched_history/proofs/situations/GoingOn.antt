@@ -1,14 +1,13 @@
 -- How a history may go on depends on what it leaves alone.
-use Rattle.std.proofs.Common.{◌≡◌, List, [], ◌∷◌, ◌++◌, None, refl, sym, ap, ◌∙◌, subst, append_assoc, append-nil}
-use Rattle.std.proofs.Common.{replicate}
+use Rattle.std.proofs.Common.{◌≡◌, List, [], ◌∷◌, ◌++◌, refl, sym, ap, ◌∙◌, subst, append_assoc, append-nil, arith}
 use Rattle.minislots.specs.declared.config.Config.{Config}
 use Rattle.map_build.specs.EachAfter.{EachAfter}
-use Rattle.sched_calls.specs.Header.{header_of}
 use Rattle.sched_calls.specs.declared.reply.Entry.{Entry}
-use Rattle.sched_history.specs.Situation.{Situation, situation_of, after, situation_after}
+use Rattle.sched_history.specs.Situation.{Situation, situation_of, opening, after, situation_after}
 use Rattle.sched_history.specs.History.{IsStep, IsLegal, IsLegalFrom}
 use Rattle.sched_history.proofs.steps.Steps.{IsLegal-push}
-use Rattle.sched_history.proofs.situations.Leaving.{situation_of-push}
+use Rattle.sched_history.proofs.lives.LiveFlows.{flows_of-none, table_of-none}
+use Rattle.sched_history.proofs.situations.Leaving.{alike, situation_of-push}
 
 -- Entries that may follow what a history leaves may follow the history, and the other way round
 pub record GoesOn (c : Config) (h es : List Entry) : Type 0 where
@@ -56,3 +55,17 @@ module _ (c : Config) where
       → IsLegal c (h ++ es) → IsLegal c (k ++ es)
   alike_for_ever h k es same legal on =
       (GoesOn-from k es legal (subst (λ s. IsLegalFrom c s es) same (IsLegalFrom-split h es on).1)).legal
+
+  -- before any call what is left is the opening's
+  pub situation_of-open : situation_of c [] ≡ opening c
+  situation_of-open =
+      alike (situation_of c []) (opening c) refl (flows_of-none c [] (λ sid. refl)) (table_of-none [] (λ sid. refl))
+      (omega arith) refl refl refl refl refl
+
+  -- so a history is legal exactly where its entries may follow that
+  pub IsLegalFrom-opening : (h : List Entry) → IsLegal c h → IsLegalFrom c (opening c) h
+  IsLegalFrom-opening h legal = subst (λ s. IsLegalFrom c s h) situation_of-open (IsLegalFrom-split [] h legal).1
+
+  pub IsLegal-from_opening : (h : List Entry) → IsLegalFrom c (opening c) h → IsLegal c h
+  IsLegal-from_opening h from =
+      (GoesOn-from [] h tt (subst (λ s. IsLegalFrom c s h) (sym situation_of-open) from)).legal

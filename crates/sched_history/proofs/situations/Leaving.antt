@@ -16,21 +16,23 @@ use Rattle.sched_history.proofs.situations.Times.{next-left, settling-left, ack-
 use Rattle.sched_history.proofs.situations.FlowsLeft.{LeavesSo, LeavesSo-step}
 
 -- situations of the same fields
-alike : (s t : Situation) → s.entries ≡ t.entries → s.flows ≡ t.flows → s.placed ≡ t.placed → s.next ≡ t.next
+pub alike : (s t : Situation) → s.entries ≡ t.entries → s.flows ≡ t.flows → s.placed ≡ t.placed → s.next ≡ t.next
     → s.progress ≡ t.progress → s.reserves ≡ t.reserves → s.header ≡ t.header → s.settling ≡ t.settling → s.ack ≡ t.ack
     → s ≡ t
 alike s t entries flows placed next progress reserves header settling ack =
     same s.entries t.entries s.flows t.flows s.placed t.placed s.next t.next s.progress t.progress s.reserves t.reserves
     s.header t.header s.settling t.settling s.ack t.ack entries flows placed next progress reserves header settling ack
   where
-    same : (e e' : ℕ) (fs fs' : List LiveFlow) (ps ps' : List Placed) (n n' : ℕ) (ts ts' : List ℕ) (rs rs' : List Reserve)
+    same : (e e' : ℕ) (fs fs' : List LiveFlow) (ps ps' : List Placed) (n n' : ℕ) (ts ts' : List ℕ)
+        (rs rs' : List Reserve)
         (hd hd' : Header) (st st' : Settling) (a a' : ℕ) → e ≡ e' → fs ≡ fs' → ps ≡ ps' → n ≡ n' → ts ≡ ts' → rs ≡ rs'
         → hd ≡ hd' → st ≡ st' → a ≡ a'
         → ◌≡◌ {A = Situation} (record {
           entries = e; flows = fs; placed = ps; next = n; progress = ts; reserves = rs; header = hd; settling = st;
           ack = a;
         }) (record {
-          entries = e'; flows = fs'; placed = ps'; next = n'; progress = ts'; reserves = rs'; header = hd'; settling = st';
+          entries = e'; flows = fs'; placed = ps'; next = n'; progress = ts'; reserves = rs'; header = hd'; settling
+              = st';
           ack = a';
         })
     same e e' fs fs' ps ps' n n' ts ts' rs rs' hd hd' st st' a a' entries flows placed next progress reserves header

@@ -1,5 +1,6 @@
 -- Where the placed flows are the periodic ones: what is placed under a SID, and the grants of all.
-use Rattle.std.proofs.Common.{◌≡◌, ℕ, ◌+◌, ◌<◌, Bool, true, false, ◌==◌, cond, if◌then◌else◌, List, [], ◌∷◌, map, filter}
+use Rattle.std.proofs.Common.{◌≡◌, ℕ, ◌+◌, ◌<◌, Bool, true, false, ◌==◌, cond, if◌then◌else◌, List, [], ◌∷◌, map}
+use Rattle.std.proofs.Common.{filter}
 use Rattle.std.proofs.Common.{find, Option, None, Some, refl, sym, ap, ◌∙◌, subst, arith}
 use Rattle.std.specs.Prelude.{sum_by}
 use Rattle.std.specs.List.{AllByRecursion}
@@ -42,7 +43,8 @@ found-spec (p ∷ ps) (f ∷ fs) sid sids specs =
     (here (f.sid == sid) has.0 (found-spec ps fs sid own.1 has.1))
   where
     here : (b : Bool) → p.spec ≡ f.spec
-        → option_map (λ q. q.spec) (find (λ q. q.sid == sid) ps) ≡ option_map (λ g. g.spec) (find (λ g. g.sid == sid) fs)
+        → option_map (λ q. q.spec) (find (λ q. q.sid == sid) ps) ≡ option_map (λ g. g.spec) (find
+        (λ g. g.sid == sid) fs)
         → option_map (λ q. q.spec) (cond b (Some p) (find (λ q. q.sid == sid) ps))
         ≡ option_map (λ g. g.spec) (cond b (Some f) (find (λ g. g.sid == sid) fs))
     here true same rest = ap (λ spec. Some spec) same
@@ -66,7 +68,8 @@ found-periodic sid (f ∷ flows) up = by_sid (f.sid == sid) refl (found-periodic
     same_sid : (f.sid == sid) ≡ true → f.sid ≡ sid
     same_sid test = grind (arith, nat_tests, test)
 
-    own : (b : Bool) → (f.sid == sid) ≡ true → find (λ g. g.sid == sid) (cond b (f ∷ periodic_in flows) (periodic_in flows))
+    own : (b : Bool) → (f.sid == sid) ≡ true
+        → find (λ g. g.sid == sid) (cond b (f ∷ periodic_in flows) (periodic_in flows))
         ≡ (if b then Some f else None)
     own true test = rw test refl
     own false test = above-none sid flows (subst (λ n. AllByRecursion (λ g. n < g.sid) flows) (same_sid test) up.0)

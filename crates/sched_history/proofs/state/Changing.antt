@@ -1,5 +1,6 @@
 -- What the fields of a scheduler say of a flow that is to have other parameters.
-use Rattle.std.proofs.Common.{◌≡◌, ℕ, ◌+◌, ◌%◌, ◌^◌, ◌<◌, ◌≤◌, Bool, true, false, not, ◌==◌, if◌then◌else◌, List, [], ◌∷◌}
+use Rattle.std.proofs.Common.{◌≡◌, ℕ, ◌+◌, ◌%◌, ◌^◌, ◌<◌, ◌≤◌, Bool, true, false, not, ◌==◌, if◌then◌else◌, List, []}
+use Rattle.std.proofs.Common.{◌∷◌}
 use Rattle.std.proofs.Common.{◌⊎◌, find, Option, None, Some, refl, sym, ap, ◌∙◌, subst, inl, inr, arith}
 use Rattle.std.specs.Prelude.{is_some, sum_by}
 use Rattle.std.specs.Option.{option_map, option_map_or, option_and_then, IfSome, IsSomeAnd, MatchOption}
@@ -38,14 +39,16 @@ use Rattle.sched_history.proofs.steps.Passed.{ChangesFlow, passed-change}
 pub alike-periodic : (spec other : FlowSpec) → is_kind_of spec other ≡ true → is_periodic other ≡ is_periodic spec
 alike-periodic (Unsolicited size interval jitter grants) (Unsolicited size' interval' jitter' grants') kind = refl
 alike-periodic (Polled interval jitter rate burst peak) (Polled interval' jitter' rate' burst' peak') kind = refl
-alike-periodic (BestEffort priority rate burst peak reserved reserved-burst) (BestEffort priority' rate' burst' peak' reserved' reserved-burst') kind = refl
+alike-periodic (BestEffort priority rate burst peak reserved reserved-burst)
+    (BestEffort priority' rate' burst' peak' reserved' reserved-burst') kind = refl
 alike-periodic spec other kind = absurd cc
 
 -- and both take requests, or neither
 pub alike-takes : (spec other : FlowSpec) → is_kind_of spec other ≡ true → takes_requests spec ≡ takes_requests other
 alike-takes (Unsolicited size interval jitter grants) (Unsolicited size' interval' jitter' grants') kind = refl
 alike-takes (Polled interval jitter rate burst peak) (Polled interval' jitter' rate' burst' peak') kind = refl
-alike-takes (BestEffort priority rate burst peak reserved reserved-burst) (BestEffort priority' rate' burst' peak' reserved' reserved-burst') kind = refl
+alike-takes (BestEffort priority rate burst peak reserved reserved-burst)
+    (BestEffort priority' rate' burst' peak' reserved' reserved-burst') kind = refl
 alike-takes spec other kind = absurd cc
 
 -- a flow that keeps its place is periodic
@@ -54,10 +57,12 @@ place-periodic (Unsolicited size interval jitter grants) (Unsolicited size' inte
 place-periodic (Polled interval jitter rate burst peak) (Polled interval' jitter' rate' burst' peak') same = refl
 place-periodic spec other same = absurd cc
 
-above-left : (sid : ℕ) (flows : List LiveFlow) → AllByRecursion (λ g. sid < g.sid) flows → without_flow sid flows ≡ flows
+above-left : (sid : ℕ) (flows : List LiveFlow) → AllByRecursion (λ g. sid < g.sid) flows
+    → without_flow sid flows ≡ flows
 above-left sid [] all = refl
 above-left sid (f ∷ flows) all =
-    let kept : not (f.sid == sid) ≡ true = grind (arith, nat_tests, all.0) in rw kept (ap (λ gs. f ∷ gs) (above-left sid flows all.1))
+    let kept : not (f.sid == sid) ≡ true = grind (arith, nat_tests, all.0) in rw kept (ap (λ gs. f ∷ gs)
+    (above-left sid flows all.1))
 
 found-first : (b : Bool) (g f : LiveFlow) (rest : Option LiveFlow) → (if b then Some g else rest) ≡ Some f → b ≡ true
     → g ≡ f
@@ -259,7 +264,8 @@ module _ (s : State) (x : Situation) (sid : ℕ) (spec : FlowSpec) (opens : IsOp
     pub change-room : placed_grants (without sid s.table.placed) + grants_of spec ≤ s.table.config.periodic
     change-room =
         let up = opens.sound.channel.ascend in
-        let rest = grants-without sid stands.0 x.placed stands.1 (placed-ascend x.flows x.placed up opens.sound.periodic) in
+        let rest = grants-without sid stands.0 x.placed stands.1
+        (placed-ascend x.flows x.placed up opens.sound.periodic) in
         let others = other-grants x.flows sid live.0.spec up (ap (option_map (λ (f : LiveFlow). f.spec)) live.1) in
         omega (
           arith,

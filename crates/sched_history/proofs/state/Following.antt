@@ -138,7 +138,8 @@ pub told-one : (c : Config) (x : Situation) (call : Call) (r r' : Reply) → is_
     → AnswersIn c x call r' → r ≡ r'
 told-one c x (Admit sid (Unsolicited size interval jitter grants)) r r' told answers other = absurd cc
 told-one c x (Admit sid (Polled interval jitter rate burst peak)) r r' told answers other = absurd cc
-told-one c x (Admit sid (BestEffort priority rate burst peak reserved reserved-burst)) r r' told answers other = answers ∙ sym other
+told-one c x (Admit sid
+    (BestEffort priority rate burst peak reserved reserved-burst)) r r' told answers other = answers ∙ sym other
 told-one c x (Remove sid) r r' told answers other = answers ∙ sym other
 told-one c x (Ask receiver sid amount heard) r r' told answers other = answers ∙ sym other
 told-one c x (Heard receiver upto) r r' told answers other = answers ∙ sym other

@@ -88,7 +88,8 @@ module _ (s : State) (h : List Entry) (e : Entry) (kept : IsKeptOf s h) where
 
   module _ (short : length h < MAX_WHOLE_HISTORY) (unrefused : refusal_of s.config h e.call ≡ None) where
     -- after its answer
-    pub IsKeptOf-followed : (t : State) → IsFollowed s t e.call e.reply (situation_of s.config h) → IsKeptOf t (h ++ e ∷ [])
+    pub IsKeptOf-followed : (t : State) → IsFollowed s t e.call e.reply (situation_of s.config h)
+        → IsKeptOf t (h ++ e ∷ [])
     IsKeptOf-followed t followed =
         IsKeptOf-push s t h e kept followed.config
         (IsStep-answered s.config h e.call e.reply unrefused followed.answers) followed.is_after

@@ -1,5 +1,6 @@
 -- The state before any call.
-use Rattle.std.proofs.Common.{◌≡◌, ℕ, zero, suc, ◌+◌, ◌≤◌, [], ◌∷◌, map, take, None, refl, sym, ap, ◌∙◌, arith, replicate}
+use Rattle.std.proofs.Common.{◌≡◌, ℕ, zero, suc, ◌+◌, ◌≤◌, [], ◌∷◌, map, take, None, refl, sym, ap, ◌∙◌, arith}
+use Rattle.std.proofs.Common.{replicate}
 use Rattle.periodic.specs.Placement.{count_from}
 use Rattle.std.specs.Prelude.{vec_capacity}
 use Rattle.minislots.specs.declared.config.Config.{Config}
@@ -29,7 +30,8 @@ next-open c = omega arith
 counted-first : (n first start : ℕ) (f : ℕ → ℕ) → ((r : ℕ) → f r ≡ start)
     → replicate n start ≡ map f (count_from first n)
 counted-first zero first start f same = refl
-counted-first (suc n) first start f same = rw (same first) (ap (λ ns. start ∷ ns) (counted-first n (first + 1) start f same))
+counted-first (suc n) first start f same = rw (same first) (ap (λ ns. start ∷ ns) (counted-first n
+    (first + 1) start f same))
 
 take-replicate : (m n start : ℕ) → m ≤ n → take m (replicate n start) ≡ replicate m start
 take-replicate zero n start le = refl
@@ -63,7 +65,8 @@ IsStateAfter-open s lawful book_config flows table_config placed next progress r
     }
 
 -- A scheduler without entries is sound, where its fields stand for the empty history
-pub IsSound-open : (a : Inside) → IsStateAfter a.state (situation_of a.state.config []) → a.ledger ≡ [] → a.entries.items ≡ []
+pub IsSound-open : (a : Inside) → IsStateAfter a.state (situation_of a.state.config []) → a.ledger ≡ []
+    → a.entries.items ≡ []
     → a.state.config.calls ≤ vec_capacity a.entries → IsSound a
 IsSound-open a is_after none empty reserved = record {
   is_after = rw none is_after;

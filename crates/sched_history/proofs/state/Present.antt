@@ -1,6 +1,7 @@
 -- What the fields of a scheduler say of what they stand for.
 use Rattle.std.proofs.Common.{◌≡◌, ◌≢◌, ℕ, ◌+◌, ◌*◌, ◌≤◌, ◌<◌, ◌^◌, Bool, true, false, not, ◌==◌, cond, List, []}
-use Rattle.std.proofs.Common.{◌∷◌, find, Option, None, Some, refl, sym, ap, ◌∙◌, subst, arith, zero, suc, take, get_or, slice_index}
+use Rattle.std.proofs.Common.{◌∷◌, find, Option, None, Some, refl, sym, ap, ◌∙◌, subst, arith, zero, suc, take}
+use Rattle.std.proofs.Common.{get_or, slice_index}
 use Rattle.std.specs.Prelude.{is_some, IsSome}
 use Rattle.std.specs.List.{AllByRecursion}
 use Rattle.std.specs.Option.{option_map_or, IfSome, MatchOption}

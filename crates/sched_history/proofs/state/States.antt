@@ -1,5 +1,6 @@
 -- The state after a history, from what is kept of it.
-use Rattle.std.proofs.Common.{◌≡◌, refl, sym, ap, ◌∙◌, ℕ, ◌+◌, List, [], ◌∷◌, ◌++◌, map, take, length, Option, None, Some}
+use Rattle.std.proofs.Common.{◌≡◌, refl, sym, ap, ◌∙◌, ℕ, ◌+◌, List, [], ◌∷◌, ◌++◌, map, take, length, Option, None}
+use Rattle.std.proofs.Common.{Some}
 use Rattle.std.proofs.Common.{slice_get, option_map}
 use Rattle.std.proofs.lemmas.List.{take_more}
 use Rattle.std.proofs.lemmas.Option.{get_or_from_slice_get, slice_get_within, slice_get-map}
@@ -34,7 +35,8 @@ told-more f xs i told new y more so at =
     more ∙ ap (λ ys. ys ++ y ∷ []) so ∙ sym (take-mapped f xs i y at)
 
 -- a flow is told with its place
-pub flow-placed : (c : Config) (placed : List Placed) (o : Option LiveFlow) (told : FlowState) (place : Option PlaceState)
+pub flow-placed : (c : Config) (placed : List Placed) (o : Option LiveFlow) (told : FlowState)
+    (place : Option PlaceState)
     → option_map (flow_state c) o ≡ Some told → place ≡ place_state_of c told.sid placed
     → option_map (flow_state_in c placed) o ≡ Some (record told { place = place })
 flow-placed c placed None told place at stands = absurd cc

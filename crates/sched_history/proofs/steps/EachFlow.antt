@@ -1,4 +1,4 @@
--- What holds of each live flow, and how many there are, after one entry more.
+-- What holds of each live flow, and how many there are, after one step more.
 use Rattle.std.proofs.Common.{◌≡◌, ℕ, ◌+◌, ◌≤◌, Bool, true, false, not, nat_lt, ◌==◌, if◌then◌else◌}
 use Rattle.std.proofs.Common.{cond, List, [], ◌∷◌, map, filter, length, refl, ◌∙◌, arith}
 use Rattle.std.specs.List.{AllByRecursion}
@@ -10,11 +10,9 @@ use Rattle.flow_book.proofs.Order.{all-implied}
 use Rattle.sched_calls.proofs.Removal.{all-filter}
 use Rattle.sched_calls.specs.declared.frame_map.FrameMap.{FrameMap}
 use Rattle.map_build.specs.Plan.{flow_after}
-use Rattle.sched_calls.specs.declared.reply.Entry.{Entry}
-use Rattle.sched_history.specs.Life.{flows_of}
-use Rattle.sched_history.specs.Time.{next_after}
+use Rattle.sched_history.specs.Situation.{Situation}
 use Rattle.sched_history.specs.Refusal.{most_bytes}
-use Rattle.sched_history.specs.History.{IsNextMap}
+use Rattle.sched_history.specs.History.{IsNextMapIn}
 use Rattle.sched_history.proofs.steps.EntryChanges.{EntryChange, Nothing, Asked, Replaced, Changed, Began}
 use Rattle.sched_history.proofs.steps.EntryChanges.{Ended, Described, Skipped}
 
@@ -44,41 +42,41 @@ turned Q false f g this other = other
 
 -- What Q asks of a flow, where P held before: as it was, with a request or the grants of a MAP more, with a request in
 -- the place of others, with other parameters, just admitted
-pub record Carries (c : Config) (h new : List Entry) (P Q : LiveFlow → Type 0) : Type 0 where
+pub record Carries (c : Config) (x y : Situation) (P Q : LiveFlow → Type 0) : Type 0 where
   pub stays : (f : LiveFlow) → P f → Q f
   pub asks : (bytes heard : ℕ) (f : LiveFlow) → bytes ≤ most_bytes → P f → Q (with_asked bytes heard f)
   pub replaces : (bytes heard : ℕ) (f : LiveFlow) → bytes ≤ most_bytes → P f → Q (with_replaced bytes heard f)
   pub changes : (spec : FlowSpec) (f : LiveFlow) → P f → Q (with_spec spec f)
   pub begins : (sid : ℕ) (spec : FlowSpec) → Q (new_flow sid spec)
-  pub grants : (m : FrameMap) (map : IsNextMap c h m) → next_after c new ≡ next_after c h + c.frame → (f : LiveFlow)
-      → P f → Q (flow_after c (next_after c h) map.0 f)
+  pub grants : (m : FrameMap) (map : IsNextMapIn c x m) → y.next ≡ x.next + c.frame → (f : LiveFlow)
+      → P f → Q (flow_after c x.next map.0 f)
 
--- then it holds of each live flow after the entry
-pub each_after : (c : Config) (h new : List Entry) (P Q : LiveFlow → Type 0) → Carries c h new P Q
-    → EntryChange c h new → AllByRecursion P (flows_of c h) → AllByRecursion Q (flows_of c new)
-each_after c h new P Q carries change all = elim change [
-  | Nothing flows next ↦ rw flows (all-implied P Q (flows_of c h) carries.stays all)
+-- then it holds of each live flow that the step leaves
+pub each_after : (c : Config) (x y : Situation) (P Q : LiveFlow → Type 0) → Carries c x y P Q
+    → EntryChange c x y → AllByRecursion P x.flows → AllByRecursion Q y.flows
+each_after c x y P Q carries change all = elim change [
+  | Nothing flows next ↦ rw flows (all-implied P Q x.flows carries.stays all)
   | Asked sid bytes heard few flows next ↦
-      rw flows (all-image P Q (λ f. if f.sid == sid then with_asked bytes heard f else f) (flows_of c h)
+      rw flows (all-image P Q (λ f. if f.sid == sid then with_asked bytes heard f else f) x.flows
       (λ f holds. turned Q (f.sid == sid) (with_asked bytes heard f) f (carries.asks bytes heard f few holds)
       (carries.stays f holds)) all)
   | Replaced sid bytes heard few flows next ↦
-      rw flows (all-image P Q (λ f. if f.sid == sid then with_replaced bytes heard f else f) (flows_of c h)
+      rw flows (all-image P Q (λ f. if f.sid == sid then with_replaced bytes heard f else f) x.flows
       (λ f holds. turned Q (f.sid == sid) (with_replaced bytes heard f) f (carries.replaces bytes heard f few holds)
       (carries.stays f holds)) all)
   | Changed sid spec may flows next ↦
-      rw flows (all-image P Q (λ f. if f.sid == sid then with_spec spec f else f) (flows_of c h)
+      rw flows (all-image P Q (λ f. if f.sid == sid then with_spec spec f else f) x.flows
       (λ f holds. turned Q (f.sid == sid) (with_spec spec f) f (carries.changes spec f holds)
       (carries.stays f holds)) all)
   | Began sid spec may flows next ↦
-      rw flows (all-with_flow Q (new_flow sid spec) (flows_of c h) (carries.begins sid spec)
-      (all-implied P Q (flows_of c h) carries.stays all))
+      rw flows (all-with_flow Q (new_flow sid spec) x.flows (carries.begins sid spec)
+      (all-implied P Q x.flows carries.stays all))
   | Ended sid flows next ↦
-      rw flows (all-filter Q (λ f. not (f.sid == sid)) (flows_of c h) (all-implied P Q
-      (flows_of c h) carries.stays all))
+      rw flows (all-filter Q (λ f. not (f.sid == sid)) x.flows (all-implied P Q
+      x.flows carries.stays all))
   | Described m map flows next most ↦
-      rw flows (all-image P Q (flow_after c (next_after c h) map.0) (flows_of c h) (carries.grants m map next) all)
-  | Skipped start flows next later aligned most ↦ rw flows (all-implied P Q (flows_of c h) carries.stays all)
+      rw flows (all-image P Q (flow_after c x.next map.0) x.flows (carries.grants m map next) all)
+  | Skipped start flows next later aligned most ↦ rw flows (all-implied P Q x.flows carries.stays all)
 ]
 
 length-inserted : (b : Bool) (f g : LiveFlow) (flows rest : List LiveFlow) (n : ℕ) → length rest ≡ n + 1

@@ -92,7 +92,8 @@ still_admit c s (Unsolicited size interval jitter grants) reply answers =
     still_place c s (Unsolicited size interval jitter grants) reply answers
 still_admit c s (Polled interval jitter rate burst peak) reply answers =
     still_place c s (Polled interval jitter rate burst peak) reply answers
-still_admit c s (BestEffort priority rate burst peak reserved reserved-burst) reply answers = subst IsStill (sym answers) (refl, refl)
+still_admit c s (BestEffort priority rate burst peak reserved reserved-burst) reply answers = subst IsStill
+    (sym answers) (refl, refl)
 
 still_sums : (b : Bool) (asked granted left : ℕ)
     → IsStill (if b then replies.Flow asked granted left else replies.Flow 0 0 0)

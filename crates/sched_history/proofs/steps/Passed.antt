@@ -196,7 +196,8 @@ passed-change c s sid spec e =
       kind = kept (has_live (is_kind_of spec) sid s.flows) kind.0;
       no_fault = fault.0;
       few_grants = λ is. within c.periodic (interval_grants (without sid s.flows) + grants_of spec)
-          (both (is_periodic spec) (nat_lt c.periodic (interval_grants (without sid s.flows) + grants_of spec)) periodic.0 is);
+          (both (is_periodic spec) (nat_lt c.periodic (interval_grants
+              (without sid s.flows) + grants_of spec)) periodic.0 is);
     }
 
 -- A rest passed
@@ -319,9 +320,11 @@ three-passed (Some r) b c rest is = absurd cc
 -- the other tests of an asker that is not refused for its SID
 pub asker-passed : (sid : ℕ) (s : Situation) (rest : Option Refusal)
     → option_or (refused_if (bad_sid sid) BadSid)
-    (option_or (refused_if (not (is_live sid s.flows)) NoFlow) (option_or (refused_if (is_silent sid s.flows) NotAsking) None)) ≡ None
+    (option_or (refused_if (not (is_live sid s.flows)) NoFlow) (option_or (refused_if
+        (is_silent sid s.flows) NotAsking) None)) ≡ None
     → option_or (refused_if (bad_sid sid) BadSid)
-    (option_or (refused_if (not (is_live sid s.flows)) NoFlow) (option_or (refused_if (is_silent sid s.flows) NotAsking) rest)) ≡ rest
+    (option_or (refused_if (not (is_live sid s.flows)) NoFlow) (option_or (refused_if
+        (is_silent sid s.flows) NotAsking) rest)) ≡ rest
 asker-passed sid s rest is =
     three-passed (refused_if (bad_sid sid) BadSid) (refused_if (not (is_live sid s.flows)) NoFlow)
     (refused_if (is_silent sid s.flows) NotAsking) rest is

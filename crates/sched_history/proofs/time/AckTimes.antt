@@ -120,7 +120,8 @@ module _ (c : Config) where
   heard_by : (h : List Entry) (call : Call) (reply : Reply) → IsLegal c h → IsStep c h call reply
       → IsHeardAfter (maps_of h) call reply
   heard_by h (calls.Ask receiver sid amount heard) replies.Taken legal step =
-      let passes : Asks c (situation_of c h) receiver sid amount heard = passed-ask c (situation_of c h) receiver sid amount heard
+      let passes : Asks c (situation_of c h) receiver sid amount heard = passed-ask c
+      (situation_of c h) receiver sid amount heard
       (accepted c h (calls.Ask receiver sid amount heard) replies.Taken (λ r refuses. cc) step).0 in
       later_acked (ack_after c h) heard (maps_of h) (omega (
         arith,
@@ -130,7 +131,8 @@ module _ (c : Config) where
             (λ r. progress_of c r h) 0 c.receivers receiver (omega arith) (omega (arith, passes.received)),
       )) (maps_acked h legal)
   heard_by h (calls.Replace receiver sid amount heard) replies.Taken legal step =
-      let passes : Replaces c (situation_of c h) receiver sid amount heard = passed-replace c (situation_of c h) receiver sid amount heard
+      let passes : Replaces c (situation_of c h) receiver sid amount heard = passed-replace c
+      (situation_of c h) receiver sid amount heard
       (accepted c h (calls.Replace receiver sid amount heard) replies.Taken (λ r refuses. cc) step).0 in
       later_acked (ack_after c h) heard (maps_of h) (omega (
         arith,
