@@ -59,8 +59,8 @@ fn tell_too_long(
 }
 
 /// What the burst descriptors of a document's lawful configuration, where it has some, leave to be asked: that no data
-/// grant is short, and of a profile of requests that it is not lawful, or that a poll or the request region is too short
-/// for one.
+/// grant is short, and of a profile of requests that it is not lawful, or that a poll or the request region is too
+/// short for one.
 pub fn tell_bursts(
     words: &mut String,
     config: &Config,

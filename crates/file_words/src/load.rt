@@ -71,8 +71,8 @@ fn room(config: &Checked) -> u32 {
     config.frame().saturating_sub(config.req_slots())
 }
 
-// The minislots that a reserved rate takes in a cycle, in bursts of as many bytes as its reservation and a frame let one
-// have.
+// The minislots that a reserved rate takes in a cycle, in bursts of as many bytes as its reservation and a frame let
+// one have.
 fn reserved_slots(config: &Checked, rate: u32, burst: u32) -> u64 {
     let most = config.most_in(room(config)).min(u64::from(burst));
     let bytes = u32::try_from(most).unwrap_or(u32::MAX);

@@ -29,8 +29,8 @@ are-served c d before flows is_long queue served tiers capacity first old o book
   rest = rw (is, o.shows) o.rest;
 }
 
--- What is shown of a MAP: its flows, the two parts, and those that may have changed, with a line that is that of the flows
--- before it
+-- What is shown of a MAP: its flows, the two parts, and those that may have changed, with a line that is that of the
+-- flows before it
 pub record IsShownOf (c : Config) (old items : List Flow) (queue served changed : List Waiting) (line : LineView) : Type 0
   where
     pub order : IsQueueIn items queue served

@@ -10,9 +10,9 @@ no_batches = record { end = 0; first = 0; second = None }
 abbrev pub is_over : Batches → ℕ → Bool
 is_over b granted = nat_le b.end granted
 
--- Those with a request of so many bytes more, which was heard at a minislot, of a flow that had asked and was granted so
--- many: where none of those asked was outstanding the request is the first batch alone, and else it joins the second,
--- which is the first from a MAP on that grants all bytes of the first
+-- Those with a request of so many bytes more, which was heard at a minislot, of a flow that had asked and was granted
+-- so many: where none of those asked was outstanding the request is the first batch alone, and else it joins the
+-- second, which is the first from a MAP on that grants all bytes of the first
 abbrev pub with_request : Batches → ℕ → ℕ → ℕ → ℕ → Batches
 with_request b asked granted bytes heard =
     if asked == granted then record { end = asked + bytes; first = heard; second = None }

@@ -11,17 +11,17 @@ use Rattle.flow_book.specs.Batches.{is_over}
 use Rattle.flow_book.specs.Choice.{last_start, last_slot}
 use Rattle.flow_book.specs.Flows.{LiveFlow, Charge, tokens_of, granted}
 
--- the least that is left at a minislot of a burst, in 1/1280000 bytes, by the windows of these charges that end with the
--- last of them: of the burst and of what the rate brings from the window's first start on, its tokens are taken. The
--- empty window leaves the burst
+-- the least that is left at a minislot of a burst, in 1/1280000 bytes, by the windows of these charges that end with
+-- the last of them: of the burst and of what the rate brings from the window's first start on, its tokens are taken.
+-- The empty window leaves the burst
 abbrev pub left_at : Config → ℕ → ℕ → ℕ → List Charge → ℕ
 left_at c rate burst slot [] = 1280000 * burst
 left_at c rate burst slot (g ∷ charges) = min
     (slot * c.ticks * rate + 1280000 * burst - (tokens_of (g ∷ charges) + g.start * c.ticks * rate))
     (left_at c rate burst slot charges)
 
--- the level of charges under a rate and a burst at a minislot: what they leave there, and where there is none the burst.
--- A rate of 0 has none
+-- the level of charges under a rate and a burst at a minislot: what they leave there, and where there is none the
+-- burst. A rate of 0 has none
 abbrev pub level_after : Config → ℕ → ℕ → ℕ → List Charge → Option ℕ
 level_after c rate burst slot charges = if rate == 0 then None else Some (left_at c rate burst slot charges)
 
@@ -32,9 +32,9 @@ batch_state b asked granted = if asked == granted then None
     else if is_over b granted then Some (record { end = asked; first = unwrap_or b.second b.first; second = None })
     else Some (record { end = b.end; first = b.first; second = b.second })
 
--- a live flow. A level is by what is charged in the present period, and each of the three is the one at the start of the
--- flow's last data grant, whether or not that is charged: the state tells no other start from which on a rate brings
--- bytes
+-- a live flow. A level is by what is charged in the present period, and each of the three is the one at the start of
+-- the flow's last data grant, whether or not that is charged: the state tells no other start from which on a rate
+-- brings bytes
 abbrev pub flow_state : Config → LiveFlow → FlowState
 flow_state c f = record {
   sid = f.sid;

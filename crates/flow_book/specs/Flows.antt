@@ -5,7 +5,8 @@ use Rattle.sched_calls.specs.declared.spec.FlowSpec.{FlowSpec}
 use Rattle.flow_book.specs.declared.batches.Batches.{Batches}
 use Rattle.flow_book.specs.declared.flow.Grant.{Grant}
 
--- a charge to a token bucket: the minislot at which it is made, and the tokens that it takes, of which 1280000 are a byte
+-- a charge to a token bucket: the minislot at which it is made, and the tokens that it takes, of which 1280000 are a
+-- byte
 pub record Charge : Type 0 where
   pub start : ℕ
   pub tokens : ℕ
@@ -22,9 +23,9 @@ charges_of grants = map charge_of grants
 abbrev pub and_grant : List Charge → ℕ → ℕ → List Charge
 and_grant charges slot bytes = charges ++ charge_of (record { start = slot; bytes = bytes }) ∷ []
 
--- a live flow: its SID and parameters, the bytes that it asked, the batches of its requests and its data grants in order;
--- and in order too what is charged to its ceiling, to its peak rate and to its reservation, each in the present period
--- of that
+-- a live flow: its SID and parameters, the bytes that it asked, the batches of its requests and its data grants in
+-- order; and in order too what is charged to its ceiling, to its peak rate and to its reservation, each in the present
+-- period of that
 pub record LiveFlow : Type 0 where
   pub sid : ℕ
   pub spec : FlowSpec

@@ -30,8 +30,8 @@ impl Batches {
         }
     }
 
-    // Those with a request of so many bytes more, which was heard at a minislot, of a flow that had asked and was granted
-    // so many.
+    // Those with a request of so many bytes more, which was heard at a minislot, of a flow that had asked and was
+    // granted so many.
     pub(crate) fn with_request(&self, asked: u64, granted: u64, bytes: u32, heard: u64) -> Batches
         requires { asked + bytes < 2 ^ 64 }
         ensures { result ≡ with_request self.now asked granted bytes heard }

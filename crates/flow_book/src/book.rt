@@ -198,8 +198,8 @@ impl Book {
         leave(&mut self.queue, place);
     }
 
-    /// Adds bytes to what a live flow asked that takes requests, in a request that was heard at minislot `heard`. The sum
-    /// fits a `u64`.
+    /// Adds bytes to what a live flow asked that takes requests, in a request that was heard at minislot `heard`. The
+    /// sum fits a `u64`.
     pub fn ask(&mut self, sid: u16, bytes: u32, heard: u64)
         requires live { IsLive sid self.old.flows }
         requires fits { IfSome (flow_of sid self.old.flows) (λ f. f.asked + bytes < 2 ^ 64) }
@@ -246,8 +246,9 @@ impl Book {
     }
 
     /// The most bytes of a data grant to a live flow at minislot `start`, in `room` minislots: at most
-    /// what is outstanding and the grant cap, under both ceilings, in a burst that fits, and where the flow is under its
-    /// reservation at most what that leaves. 0 where no bytes may be granted. The flow's grants start at or before `start`.
+    /// what is outstanding and the grant cap, under both ceilings, in a burst that fits, and where the flow is under
+    /// its reservation at most what that leaves. 0 where no bytes may be granted. The flow's grants start at or before
+    /// `start`.
     pub fn most(&self, sid: u16, start: u64, room: u32) -> u32
         requires live { IsLive sid self.now.flows }
         requires started { IfSome (flow_of sid self.now.flows) (HasStartedBy start) }
@@ -259,8 +260,8 @@ impl Book {
 
     /// The SID of the flow that a data grant at minislot `start`, with `room` minislots before what
     /// comes next, goes to: of the flows that may take the quantum, or all that they wait for, the first
-    /// by rank from the highest, that of a polled flow where the flow is under its reservation, start of the last grant,
-    /// none before any, and SID. `None` where no flow may. All grants start at or before `start`.
+    /// by rank from the highest, that of a polled flow where the flow is under its reservation, start of the last
+    /// grant, none before any, and SID. `None` where no flow may. All grants start at or before `start`.
     pub fn eligible(&self, start: u64, room: u32) -> Option<u16>
         requires { AllByRecursion (HasStartedBy start) self.now.flows }
         ensures { IsNextSid self.now.config start room self.now.flows result }
@@ -340,7 +341,8 @@ impl Book {
     }
 
     /// The same as [`Book::overlay`], for a MAP that the book is to take in: what it keeps of the flows that wait goes
-    /// with the overlay, and is not copied. [`Book::take_in`] brings it back; otherwise it is made anew when it is needed.
+    /// with the overlay, and is not copied. [`Book::take_in`] brings it back; otherwise it is made anew when it is
+    /// needed.
     pub fn lend(&mut self) -> Result<Overlay, AllocError>
         ensures overlay { IfOk result (λ overlay. overlay ≡ record {
           config = self.old.config;
@@ -353,9 +355,9 @@ impl Book {
         Overlay::over(&self.channel, &self.flows, queue, self.line.take())
     }
 
-    /// The flows that the MAP of an overlay shows by pending grants, in order of SID, and its acknowledge time, where all
-    /// receivers have handed in what they heard before the progress. The overlay was made of this book, whose flows have
-    /// not changed since.
+    /// The flows that the MAP of an overlay shows by pending grants, in order of SID, and its acknowledge time, where
+    /// all receivers have handed in what they heard before the progress. The overlay was made of this book, whose flows
+    /// have not changed since.
     pub fn show(&self, overlay: &mut Overlay, progress: u64) -> Result<Shown, AllocError>
         requires { overlay.old.before ≡ self.now.flows }
         ensures pending { IfOk result (λ s. s.pending.items ≡ map (λ f. f.sid)

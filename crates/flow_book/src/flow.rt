@@ -282,8 +282,8 @@ impl Flow {
         turn_in(self.turn, rank)
     }
 
-    // Whether this flow is served at this minislot before the next of those before it, if there is one: by rank from the
-    // highest, then by the start of the last grant, none before any, then by SID, which is higher here.
+    // Whether this flow is served at this minislot before the next of those before it, if there is one: by rank from
+    // the highest, then by the start of the last grant, none before any, then by SID, which is higher here.
     fn comes_before(&self, config: &Checked, start: u64, next: Option<&Flow>) -> bool
         requires sums { KeepsSums config.now self.now }
         requires within { granted (live self.now) ≤ self.now.asked }

@@ -14,7 +14,8 @@ use crate::granted::GrantList;
 use minislots::Checked;
 use std::marker::Model;
 
-// The live flows of a book, in order. They stand in proofs alone, so they take no memory, and a copy of them is no work.
+// The live flows of a book, in order. They stand in proofs alone, so they take no memory, and a copy of them is no
+// work.
 #[derive(Drop)]
 pub(crate) struct FlowList {
     pub(crate) ghost items: { List LiveFlow } by { flows_code },

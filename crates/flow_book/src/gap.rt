@@ -1,5 +1,5 @@
-//! Many are put into a queue at once. It has as many places more, a gap, which moves forwards as they are put in from the
-//! last on.
+//! Many are put into a queue at once. It has as many places more, a gap, which moves forwards as they are put in from
+//! the last on.
 
 ghost use Rattle.std.specs.Prelude.{◌≡◌, ◌<◌, ◌≤◌, ◌+◌, ◌-◌, List, length, take, drop, OnOk, ◌++◌};
 ghost use Rattle.std.specs.List.{AllByRecursion};
@@ -8,9 +8,9 @@ ghost use Rattle.flow_book.specs.Gap.{around, all_put_in};
 
 use crate::waiting::Waiting;
 
-// Puts one into a queue with a gap of so many places from the first on: of an earlier turn than those behind the gap. It
-// goes to the last place of the gap, behind which those before the gap of later turns have moved. Answers where the gap
-// begins then.
+// Puts one into a queue with a gap of so many places from the first on: of an earlier turn than those behind the gap.
+// It goes to the last place of the gap, behind which those before the gap of later turns have moved. Answers where the
+// gap begins then.
 fn put_behind(queue: &mut [Waiting], first: usize, gap: usize, one: Waiting) -> usize
     requires gap { 0 < gap }
     requires within { first + gap ≤ length queue.old }

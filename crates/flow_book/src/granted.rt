@@ -59,8 +59,8 @@ impl GrantList {
         GrantList {}
     }
 
-    // The same grants, of a flow that had these parameters and has others from now on: in a period that begins nothing is
-    // charged yet.
+    // The same grants, of a flow that had these parameters and has others from now on: in a period that begins nothing
+    // is charged yet.
     pub(crate) fn under(_before: &GrantList, _spec: &FlowSpec, _next: &FlowSpec) -> GrantList
         ensures { (result.items ≡ _before.now.items)
             × (result.sustained ≡ (if has_ceiling_of _spec.now _next.now then _before.now.sustained else []))

@@ -61,8 +61,8 @@ impl Limits {
         self.sustained.has(slot, bytes) && self.peak.has(slot, bytes)
     }
 
-    // Takes a grant of so many bytes that starts at this minislot, to a flow that wants so many at least, where it keeps
-    // both ceilings, and the reservation where it is a reserved one. Answers whether it is.
+    // Takes a grant of so many bytes that starts at this minislot, to a flow that wants so many at least, where it
+    // keeps both ceilings, and the reservation where it is a reserved one. Answers whether it is.
     pub(crate) fn take(&mut self, slot: u64, wanted: u32, bytes: u32) -> bool
         requires begun { HasBegunBy slot self.old }
         requires has { most_with self.old slot wanted bytes ≡ bytes }

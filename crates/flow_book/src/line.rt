@@ -24,8 +24,8 @@ use std::alloc::{AllocError, Global};
 use std::collections::BTreeSet;
 use std::marker::Model;
 
-/// The numbers in line of the flows that wait, in order, where they are known. They stand apart, since most often they are
-/// not.
+/// The numbers in line of the flows that wait, in order, where they are known. They stand apart, since most often they
+/// are not.
 #[derive(Drop)]
 pub(crate) struct Line {
     numbers: Option<Box<BTreeSet<u128>>>,
@@ -108,8 +108,8 @@ fn set_of(alloc: Global, numbers: Vec<u128>) -> Result<BTreeSet<u128>, AllocErro
     numbers.into_iter().collect(alloc)
 }
 
-// The numbers of those of the two parts that still wait, in order: they are sorted once, which takes far less than to put
-// each in its place.
+// The numbers of those of the two parts that still wait, in order: they are sorted once, which takes far less than to
+// put each in its place.
 fn numbers_of(
     alloc: Global,
     queue: &[Waiting],
@@ -208,8 +208,8 @@ impl Line {
         }
     }
 
-    // Makes it that of the flows after a MAP where it is that of those before. These are the flows before, and those that
-    // the MAP served.
+    // Makes it that of the flows after a MAP where it is that of those before. These are the flows before, and those
+    // that the MAP served.
     pub(crate) fn mend(&mut self, served: &[Waiting], flows: &Flows)
         requires { (c : Config) × (items : List Flow) × AreServed c flows.now items served.now }
         ensures { (c : Config) (items : List Flow) → AreServed c flows.now items served.now
@@ -223,8 +223,8 @@ impl Line {
         }
     }
 
-    // Makes it known, from the two parts of a queue after a MAP and the flows before it. Where memory runs out it is not
-    // known.
+    // Makes it known, from the two parts of a queue after a MAP and the flows before it. Where memory runs out it is
+    // not known.
     pub(crate) fn fill(&mut self, queue: &[Waiting], served: &[Waiting], flows: &Flows)
         ensures { (c : Config) (items : List Flow) → IsBook c items → IsQueueIn items queue.now served.now
             → AllZip IsSameFlow (map live flows.now) (map live items) → IsLineOf (map live items) self.new }

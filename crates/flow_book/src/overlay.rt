@@ -86,8 +86,8 @@ fn forget_shown(line: &mut Line, is_shown: &mut bool)
 #[derive(Drop)]
 pub struct Overlay {
     channel: Channel,
-    // The flows that waited before the MAP, by their turns, where they are few. One that it served has here what it still
-    // wants.
+    // The flows that waited before the MAP, by their turns, where they are few. One that it served has here what it
+    // still wants.
     few: Vec<Waiting>,
     // And where they are many. One that it served wants nothing here.
     many: Queue,
@@ -98,8 +98,8 @@ pub struct Overlay {
     // The tiers of both.
     tiers: Vec<Tier>,
     is_long: bool,
-    // The numbers in line of the flows before the MAP, or where it was shown of those with its data grants, where they are
-    // known.
+    // The numbers in line of the flows before the MAP, or where it was shown of those with its data grants, where they
+    // are known.
     line: Line,
     is_shown: bool,
     // The live flows before the MAP, and with its data grants, for contracts alone.

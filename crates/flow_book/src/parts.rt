@@ -126,8 +126,8 @@ fn put_reserved(served: &mut Vec<Waiting>, waiting: Waiting)
     let _ = served.insert(index, waiting);
 }
 
-// Puts the one at this place in the queue, which is served and whose turn is no earlier than before, among those served:
-// in the queue it wants nothing any more.
+// Puts the one at this place in the queue, which is served and whose turn is no earlier than before, among those
+// served: in the queue it wants nothing any more.
 fn put_queued(queue: &mut Queue, served: &mut Vec<Waiting>, index: usize, waiting: Waiting)
     requires order { (items : List Flow) × IsQueueIn items queue.old served.old.items }
     requires here { (w : Waiting) × (slice_get queue.old index ≡ Some w) × (still_waits w ≡ true)
@@ -294,8 +294,8 @@ fn serve_long(
     Some(granted)
 }
 
-// Serves the first that may be served, and puts it where it stands from now on. Where many wait none of the queue before
-// the first place wants anything.
+// Serves the first that may be served, and puts it where it stands from now on. Where many wait none of the queue
+// before the first place wants anything.
 pub(crate) fn serve_first(
     few: &mut Vec<Waiting>,
     many: &mut Queue,

@@ -89,7 +89,8 @@ fn is_passed(waiting: &Waiting, turn: u128) -> bool
     waiting.turn <= turn || waiting.wants == 0
 }
 
-// Moves those behind this place that one of a later turn passes to the front by one, and answers where it comes to stand.
+// Moves those behind this place that one of a later turn passes to the front by one, and answers where it comes to
+// stand.
 #[inline(never)]
 fn pass(queue: &mut [Waiting], index: usize, turn: u128) -> usize
     requires within { index < length queue.old }
@@ -120,8 +121,8 @@ fn move_behind(queue: &mut [Waiting], index: usize, waiting: Waiting)
     queue[to] = waiting;
 }
 
-// Puts the one at this place in the queue, which was served and passes all before it, behind those that it passes: where
-// it wants nothing any more it stays where it is.
+// Puts the one at this place in the queue, which was served and passes all before it, behind those that it passes:
+// where it wants nothing any more it stays where it is.
 #[inline(always)]
 pub(crate) fn put_on(queue: &mut [Waiting], index: usize, waiting: Waiting)
     requires within { index < length queue.old }

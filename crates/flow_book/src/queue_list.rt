@@ -1,5 +1,5 @@
-//! The queue of a book as a list. Those that leave it at its front leave empty places there, so that the others need not
-//! move.
+//! The queue of a book as a list. Those that leave it at its front leave empty places there, so that the others need
+//! not move.
 
 ghost use Rattle.std.specs.Prelude.{◌≡◌, ◌<◌, ◌≤◌, ◌+◌, ◌^◌, ◌++◌, [], ℕ, length, insert, remove, set, map, filter, take, drop};
 ghost use Rattle.std.specs.Prelude.{get_or, slice_index_or, IfOk, OnOk, OnErr};
@@ -168,8 +168,8 @@ impl Queue {
         tiers_of(alloc, &mut self.list[self.front..], flows)
     }
 
-    // Moves those before this place that still wait up to it, in their order, and answers where the first of them stands
-    // then.
+    // Moves those before this place that still wait up to it, in their order, and answers where the first of them
+    // stands then.
     fn close_up(&mut self, upto: usize) -> usize
         requires { upto ≤ length self.old }
         ensures closed { drop result self.new ≡ filter still_waits (take upto self.old) ++ drop upto self.old }

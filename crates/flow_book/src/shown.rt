@@ -202,8 +202,8 @@ fn wait_many(queue: &[Waiting], served: &[Waiting], most: usize) -> bool {
     queue.len() + served.len() > most.saturating_mul(4)
 }
 
-// Makes a line that is that of the flows before a MAP that of those after it: it is mended where it is known, and where it
-// is not and many wait it is filled.
+// Makes a line that is that of the flows before a MAP that of those after it: it is mended where it is known, and where
+// it is not and many wait it is filled.
 fn keep_line(
     line: &mut Line,
     queue: &[Waiting],
@@ -245,9 +245,9 @@ fn least_of(
 }
 
 // The first so many of those that still wait, all where there are no more, and the acknowledge time. The queue is in
-// two parts: those that waited before a MAP, and those that it served. They are of the flows with its data grants, and no
-// other has changed than the flows of `changed`. The line is that of the flows before the MAP, and that of those after it
-// then.
+// two parts: those that waited before a MAP, and those that it served. They are of the flows with its data grants, and
+// no other has changed than the flows of `changed`. The line is that of the flows before the MAP, and that of those
+// after it then.
 pub(crate) fn show(
     alloc: Global,
     queue: &[Waiting],

@@ -64,8 +64,8 @@ impl Able {
     }
 }
 
-// Of those in a list that wait, one that may be served, which comes first of those up to its place, or the one behind it
-// that comes before it at this minislot: the first of them.
+// Of those in a list that wait, one that may be served, which comes first of those up to its place, or the one behind
+// it that comes before it at this minislot: the first of them.
 #[inline(never)]
 fn sooner_behind(
     queue: &[Waiting],
@@ -129,8 +129,8 @@ pub(crate) fn soonest_of(
     sooner_behind(queue, able, tiers, config, start, room).index
 }
 
-// Where in a list of those that wait, of which none before the first place wants anything, the one stands that is served
-// first at this minislot, of those that may be served.
+// Where in a list of those that wait, of which none before the first place wants anything, the one stands that is
+// served first at this minislot, of those that may be served.
 pub(crate) fn soonest(
     queue: &[Waiting],
     first: usize,

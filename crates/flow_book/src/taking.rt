@@ -40,8 +40,8 @@ pub(crate) fn behind_last_idle(queue: &[Waiting]) -> usize
     at
 }
 
-// Moves those of a queue before this place that still wait up to it, in their order, and answers where the first of them
-// stands then.
+// Moves those of a queue before this place that still wait up to it, in their order, and answers where the first of
+// them stands then.
 pub(crate) fn close_up(queue: &mut [Waiting], upto: usize) -> usize
     requires { upto ≤ length queue.old }
     ensures closed { drop result queue.new ≡ filter still_waits (take upto queue.old) ++ drop upto queue.old }

@@ -28,8 +28,8 @@ pub(crate) struct Tier {
 }
 
 impl Tier {
-    // Takes the most bytes, up to the limit, that keep the ceilings of its flow, of which this is the sustained one, in a
-    // grant that starts at this minislot, where the flow wants so many at least: of a reserved grant no more than the
+    // Takes the most bytes, up to the limit, that keep the ceilings of its flow, of which this is the sustained one, in
+    // a grant that starts at this minislot, where the flow wants so many at least: of a reserved grant no more than the
     // reservation leaves. Answers how many they are.
     #[inline(always)]
     pub(crate) fn take_most(

@@ -21,9 +21,9 @@ use crate::limits::Limits;
 use crate::tiers::Tier;
 use minislots::Checked;
 
-// A flow that waits for bytes: its turn in its highest rank, the bytes that it waits for, its place among the flows, the
-// number of its tier, none where it has neither a peak rate nor a reservation, and what its maximum sustained rate leaves
-// to it.
+// A flow that waits for bytes: its turn in its highest rank, the bytes that it waits for, its place among the flows,
+// the number of its tier, none where it has neither a peak rate nor a reservation, and what its maximum sustained rate
+// leaves to it.
 #[derive(Clone, Copy)]
 pub(crate) struct Waiting {
     pub(crate) turn: u128,
@@ -61,8 +61,8 @@ impl Waiting {
         }
     }
 
-    // Its turn at this minislot: with a reservation in the rank of a polled flow where that leaves what it wants at least,
-    // and else in its own.
+    // Its turn at this minislot: with a reservation in the rank of a polled flow where that leaves what it wants at
+    // least, and else in its own.
     pub(crate) fn turn_at(&self, tiers: &[Tier], config: &Checked, start: u64) -> u128
         requires { HasBegunBy start (limits_in tiers.now self.now) }
         ensures { result ≡ turn_at config.now tiers.now start self.now }
@@ -109,8 +109,8 @@ impl Waiting {
         self.has(tiers, start, wanted as u32)
     }
 
-    // Takes the most bytes, up to the limit, that keep its ceilings in a grant that starts at this minislot, where it wants
-    // so many at least, and answers how many they are.
+    // Takes the most bytes, up to the limit, that keep its ceilings in a grant that starts at this minislot, where it
+    // wants so many at least, and answers how many they are.
     #[inline(always)]
     fn take_most(&mut self, tiers: &mut [Tier], slot: u64, wanted: u32, limit: u32) -> u32
         requires { HasBegunBy slot (limits_in tiers.old self.old) }

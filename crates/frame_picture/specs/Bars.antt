@@ -143,7 +143,7 @@ name_text b =
 unfoldable pub bar_text : Bar → List ℕ
 bar_text b = box_text b ++ (title_text b ++ name_text b)
 
--- the bars of a MAP with these elements and byte counts, where these SIDs' flows are unsolicited and these opportunities
--- are met
+-- the bars of a MAP with these elements and byte counts, where these SIDs' flows are unsolicited and these
+-- opportunities are met
 abbrev pub bars_text : ℕ → (ℕ → Bool) → List Met → List Element → List ℕ → List ℕ
 bars_text units unsolicited met es bytes = flat_map bar_text (bars_of units unsolicited met es bytes)

@@ -34,8 +34,9 @@ pub(crate) fn judge_met(auditor: &mut Auditor, entry: &Entry) -> Result<Vec<Met>
     Ok(met)
 }
 
-/// What the MAP of each entry of a history meets of the opportunities that wait for it: as the plan has it, whatever its
-/// elements read like. From the first entry on that may not follow those before it there is no plan, and none is told.
+/// What the MAP of each entry of a history meets of the opportunities that wait for it: as the plan has it, whatever
+/// its elements read like. From the first entry on that may not follow those before it there is no plan, and none is
+/// told.
 pub fn met_by_entries(
     alloc: Global,
     config: &Checked,

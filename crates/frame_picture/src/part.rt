@@ -14,9 +14,9 @@ use minislots::Checked;
 use sched_history::{Auditor, Entry, JudgeFault, MAX_ENTRIES, Met};
 use std::alloc::{AllocError, Global};
 
-/// The frames of a legal history that are drawn, while its entries come one by one, and are judged. What is kept are the
-/// entries from the first frame that is drawn to the last one, whatever stands before and behind, and what each of them
-/// meets. Contracts see the configuration, the span, and an auditor that has taken the entries that came.
+/// The frames of a legal history that are drawn, while its entries come one by one, and are judged. What is kept are
+/// the entries from the first frame that is drawn to the last one, whatever stands before and behind, and what each of
+/// them meets. Contracts see the configuration, the span, and an auditor that has taken the entries that came.
 #[derive(Drop)]
 pub struct Part {
     // Whose frames they are.

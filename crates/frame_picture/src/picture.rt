@@ -136,8 +136,8 @@ fn put_all<W: Sink>(
 
 /// Writes the picture of a history's frames, on this channel: an axis with the legend above each 40 rows, and a row for
 /// each MAP in the span, in their order, with a bar for each of its allocations, and above it a mark where frames were
-/// left out. What the entries meet is what [`met_by_entries`](crate::met_by_entries) tells of them. Takes no memory, and
-/// only a failed write ends it. The history need not be legal.
+/// left out. What the entries meet is what [`met_by_entries`](crate::met_by_entries) tells of them. Takes no memory,
+/// and only a failed write ends it. The history need not be legal.
 pub fn put_picture<W: Sink>(
     writer: &mut W,
     config: &Checked,

@@ -102,7 +102,8 @@ u8_or missing key d = or_number missing (get key d) (u8_at key d)
 unfoldable pub u32_or : ℕ → List ℕ → Data → Option ℕ
 u32_or missing key d = or_number missing (get key d) (u32_at key d)
 
--- the most live flows, pending grants of a MAP, and grants and polls of an interval: 64, 64 and 40 where they are missing
+-- the most live flows, pending grants of a MAP, and grants and polls of an interval: 64, 64 and 40 where they are
+-- missing
 unfoldable pub limits_of : Data → Option (ℕ × ℕ × ℕ)
 limits_of d = do
   flows ← u32_or 64 (codes "flows") d

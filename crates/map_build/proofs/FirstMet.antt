@@ -243,7 +243,8 @@ module _ (c : Config) (d : Demand) where
         HasGap c d.spots o.slots
     met-gap place o waits met = gap-by-plan [] plan is.each place o waits met (λ b has. has)
 
--- of a lawful frame in which modems may send the first opportunity that waits is met exactly where there is a gap for it
+-- of a lawful frame in which modems may send the first opportunity that waits is met exactly where there is a gap for
+-- it
 pub meets-first : (c : Config) (d : Demand) (plan : List Allocation) (met : List Bool) → d.settles ≡ false →
     MayWait d.waiting → IsPlan c d plan → AreMet plan met → MeetsFirst c d.spots d.waiting met
 meets-first c d plan met sends may is marks = record {

@@ -119,9 +119,9 @@ fn plan_over(
 }
 
 /// The lawful MAP of frame number `frame`, which starts at `frame` times the frame's minislots, with
-/// the minislot `progress` before which all receivers have handed in what they heard. Book and table are of one channel, the table places the
-/// book's periodic flows, and the book's grants start before the frame. No opportunity waits for it, and its header is
-/// the configuration's.
+/// the minislot `progress` before which all receivers have handed in what they heard. Book and table are of one
+/// channel, the table places the book's periodic flows, and the book's grants start before the frame. No opportunity
+/// waits for it, and its header is the configuration's.
 pub fn plan_frame(
     alloc: Global,
     book: &Book,

@@ -91,9 +91,9 @@ fn met_around(
     Ok(met)
 }
 
-/// What the MAP of frame number `frame` with these elements meets of the opportunities that wait for it, where the table
-/// places its polls and unsolicited grants. What begins at an offset is the poll or unsolicited grant whose place that
-/// is, else the first opportunity that waits and has room, and never what its element says.
+/// What the MAP of frame number `frame` with these elements meets of the opportunities that wait for it, where the
+/// table places its polls and unsolicited grants. What begins at an offset is the poll or unsolicited grant whose place
+/// that is, else the first opportunity that waits and has room, and never what its element says.
 pub fn met_in(
     alloc: Global,
     table: &Table,

@@ -58,8 +58,8 @@ abbrev pub with_overhead : ℕ → the_bursts.Bursts → the_bursts.Bursts
 with_overhead n (Uniform bytes_per_slot overhead) = Uniform bytes_per_slot n
 with_overhead n (Described d) = Described d
 
--- whether the field is a number here: burst descriptors are none, and beside them there are no bytes in a minislot and no
--- overhead
+-- whether the field is a number here: burst descriptors are none, and beside them there are no bytes in a minislot and
+-- no overhead
 abbrev pub is_number : Config → ConfigFault → Bool
 is_number c BytesPerSlot = is_uniform c.bursts
 is_number c Overhead = is_uniform c.bursts

@@ -23,8 +23,8 @@ bytes_in c slots = capacity_of c.bursts c.short_max slots
 abbrev pub is_short : Config → ℕ → Bool
 is_short c bytes = is_short_burst c.bursts c.short_max bytes
 
--- the minislots of an unsolicited grant of this many bytes: those of a data grant, or where the channel has Advanced PHY
--- bursts those by the profile of unsolicited grants
+-- the minislots of an unsolicited grant of this many bytes: those of a data grant, or where the channel has Advanced
+-- PHY bursts those by the profile of unsolicited grants
 abbrev pub slots_for_unsolicited : Config → ℕ → ℕ
 slots_for_unsolicited c bytes = if c.phy == 1 then unsolicited_slots c.bursts bytes else slots_for c bytes
 

@@ -30,8 +30,8 @@ impl Checked {
         4 * u64::from(micros) / self.quarter_micros()
     }
 
-    /// The minislots of a data grant of `bytes` bytes: preamble, guard time and the bytes with their parity, by the burst
-    /// descriptor of its usage.
+    /// The minislots of a data grant of `bytes` bytes: preamble, guard time and the bytes with their parity, by the
+    /// burst descriptor of its usage.
     #[inline(always)]
     pub fn slots_for(&self, bytes: u32) -> u64
         ensures value { result ≡ slots_for self.now bytes }
@@ -41,8 +41,8 @@ impl Checked {
         self.grant_size(bytes).slots
     }
 
-    /// The minislots of a data grant of `bytes` bytes ([`Checked::slots_for`]), and whether it is a short one: its burst
-    /// by the profile of short grants has at most `short_max` minislots, and no more than by that of long ones.
+    /// The minislots of a data grant of `bytes` bytes ([`Checked::slots_for`]), and whether it is a short one: its
+    /// burst by the profile of short grants has at most `short_max` minislots, and no more than by that of long ones.
     #[inline(always)]
     pub fn grant_size(&self, bytes: u32) -> GrantSize
         ensures slots { result.slots ≡ slots_for self.now bytes }

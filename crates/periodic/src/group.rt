@@ -183,8 +183,8 @@ pub(crate) fn flow_of(groups: &[Group], sid: u16) -> Option<&PlacedFlow>
     Some(&groups[index].flows[place])
 }
 
-// Takes the flow with this SID out of its group, and answers the group's place too: the group has room for the flow, and
-// may be without flows. Room that a group had it still has.
+// Takes the flow with this SID out of its group, and answers the group's place too: the group has room for the flow,
+// and may be without flows. Room that a group had it still has.
 pub(crate) fn lift_out(groups: &mut Vec<Group>, sid: u16) -> Option<(usize, PlacedFlow)>
     ensures taken { IfSome result
         (λ out. HasOneMore out.1 (flows_in groups.new.items) (flows_in groups.old.items)) }

@@ -118,7 +118,8 @@ impl Table {
     /// first nominal time at or after `next`. Of all lawful ones it takes that of the least phase, then of the least
     /// offset, then in each frame the least first start, then the least next one. The flow has a new SID from 1 to 8191
     /// and parameters without fault, its grants per interval and those of the flows that are placed are at most
-    /// `periodic` of the configuration, and `next` is the start of a frame, at most 2^61. After a fault nothing has changed.
+    /// `periodic` of the configuration, and `next` is the start of a frame, at most 2^61. After a fault nothing has
+    /// changed.
     pub fn place(&mut self, sid: u16, spec: &FlowSpec, next: u64) -> Result<Placement, PlaceFault>
         requires sid_positive { 0 < sid }
         requires sid_most { sid ≤ 8191 }

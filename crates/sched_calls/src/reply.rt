@@ -29,7 +29,8 @@ pub enum Refusal {
     BadFlow(FlowFault),
     /// As many flows are live as `flows` of the configuration.
     FlowsFull,
-    /// The grants per interval of the live periodic flows and of this one are more than `periodic` of the configuration.
+    /// The grants per interval of the live periodic flows and of this one are more than `periodic` of the
+    /// configuration.
     PeriodicFull,
     /// No lawful placement exists.
     NoPlace,

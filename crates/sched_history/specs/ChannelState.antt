@@ -20,9 +20,10 @@ flow_state_in c placed f = record (flow_state c f) { place = place_state_of c f.
 abbrev pub reserve_state : Reserve → ReserveState
 reserve_state r = record { opportunity = r.opportunity; maps = r.maps }
 
--- the state that a history leaves: the number of its entries; where the next MAP starts; how far each receiver has handed
--- in what it heard; the last MAP's acknowledge time and UCD count, the header of the next one, and where the last MAP
--- starts that changed the UCD count; the live flows, in order of SID; and the Reserves that wait, in their order
+-- the state that a history leaves: the number of its entries; where the next MAP starts; how far each receiver has
+-- handed in what it heard; the last MAP's acknowledge time and UCD count, the header of the next one, and where the
+-- last MAP starts that changed the UCD count; the live flows, in order of SID; and the Reserves that wait, in their
+-- order
 abbrev pub state_in : Config → Situation → ChannelState
 state_in c s = record {
   entries = s.entries;

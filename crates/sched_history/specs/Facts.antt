@@ -98,8 +98,8 @@ abbrev pub StartsAscend : Config → List FrameMap → Type 0
 StartsAscend c maps =
     EachAfter (λ before m. AllByRecursion (λ earlier. earlier.start + c.frame ≤ m.start) before) [] maps
 
--- the element is a poll or an unsolicited grant: in the frame, to a flow, without bytes that were asked, and begins where
--- no opportunity is met
+-- the element is a poll or an unsolicited grant: in the frame, to a flow, without bytes that were asked, and begins
+-- where no opportunity is met
 pub record IsPeriodic (c : Config) (met : List Met) (e : Element) (bytes : ℕ) : Type 0 where
   pub in_frame : e.offset < c.frame
   pub to_flow : bad_sid e.sid ≡ false
@@ -144,8 +144,8 @@ pub record IsReserving (c : Config) (flows : List LiveFlow) (start room : ℕ) (
   pub may : IsEligible c start room f
   pub under : is_under c start f ≡ true
 
--- no idle stands where with a data grant left to give a flow is under its reservation, and no data grant there goes to a
--- flow of a rank below that of polled flows
+-- no idle stands where with a data grant left to give a flow is under its reservation, and no data grant there goes to
+-- a flow of a rank below that of polled flows
 abbrev pub GivesWay : Config → Demand → List Allocation → ℕ → Purpose → Type 0
 GivesWay c d before offset (DataGrant sid bytes) = (f : LiveFlow)
     × Contains (flows_after c d.start before d.flows) f × (f.sid ≡ sid)

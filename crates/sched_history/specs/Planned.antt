@@ -14,7 +14,8 @@ use Rattle.sched_history.specs.Refusal.{refusal_of}
 use Rattle.sched_history.specs.History.{IsNextMap}
 use Rattle.sched_history.specs.Machine.{Machine, is_full}
 
--- a build's clock and its MAP, the live flows of the channel before and after it, and marks at the Reserves that it meets
+-- a build's clock and its MAP, the live flows of the channel before and after it, and marks at the Reserves that it
+-- meets
 pub record PlannedBuild : Type 0 where
   pub config : Config
   pub clock : ℕ

@@ -49,8 +49,8 @@ abbrev pub MeetsOnce : Config → List Entry → Type 0
 MeetsOnce c h = (kind : Opportunity → Bool)
     → count_by kind (offers_after c [] h) + count_by kind (asked_for (reserves_of c h)) ≤ count_by kind (reserved_in h)
 
--- Of what was asked for in the last entries, where they have fewer than 64 MAPs that do not settle, all was met there or
--- waits
+-- Of what was asked for in the last entries, where they have fewer than 64 MAPs that do not settle, all was met there
+-- or waits
 abbrev pub LosesNone : Config → List Entry → Type 0
 LosesNone c h = (n : ℕ) (kind : Opportunity → Bool) → ages_in c (take n h) (drop n h) < last_map
     → count_by kind (reserved_in (drop n h))
@@ -66,8 +66,8 @@ abbrev pub MeetsWaiting : Config → List Entry → Reply → Type 0
 MeetsWaiting c before reply =
     AllByRecursion (λ o. Contains (waiting_in (reserves_of c before)) o) (offers_by c before reply)
 
--- a MAP that does not settle meets the first that waits exactly where as many minislots stand together as that asks for,
--- behind the request region and between polls and unsolicited grants: so no data makes it wait. Nor has it another
+-- a MAP that does not settle meets the first that waits exactly where as many minislots stand together as that asks
+-- for, behind the request region and between polls and unsolicited grants: so no data makes it wait. Nor has it another
 -- opportunity where they do not
 abbrev pub MeetsFirst : Config → List Entry → Reply → Type 0
 MeetsFirst c before (Built m) = settles_after c before ≡ false → (o : Opportunity)
@@ -80,8 +80,8 @@ MeetsFirst c before reply = Unit {0}
 abbrev pub offer_at : Met → Opportunity → Allocation
 offer_at x o = record { offset = x.offset; slots = o.slots; purpose = Offer x.place o.usage }
 
--- An opportunity that is met stands among these elements as one of its own, to the SID and with the code of its usage, as
--- long as it is up to the next element, and without bytes
+-- An opportunity that is met stands among these elements as one of its own, to the SID and with the code of its usage,
+-- as long as it is up to the next element, and without bytes
 pub record StandsIn (c : Config) (elements : List Element) (bytes : List ℕ) (x : Met) (o : Opportunity) : Type 0 where
   pub index : ℕ
   pub element : slice_get elements index ≡ Some (element_of c (offer_at x o))

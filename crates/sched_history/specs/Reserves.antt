@@ -107,8 +107,8 @@ met_by c h rs elements = met_beside c (settles_after c h) (spots_after c h) rs e
 abbrev pub left_behind : Bool → List Bool → List Reserve → List Reserve
 left_behind settles met rs = if settles then rs else aged (unmarked met rs)
 
--- the Reserves after a MAP with these elements, beside these polls and unsolicited grants: those that it meets are gone,
--- and the others older. Where it settles all are as they were
+-- the Reserves after a MAP with these elements, beside these polls and unsolicited grants: those that it meets are
+-- gone, and the others older. Where it settles all are as they were
 abbrev pub reserves_past : Config → Bool → List Spot → List Element → List Reserve → List Reserve
 reserves_past c settles spots elements rs =
     if settles then rs else aged (left_by (meets_place (met_beside c settles spots rs elements)) rs)

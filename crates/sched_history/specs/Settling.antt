@@ -79,8 +79,8 @@ settling_with count start s =
 abbrev pub is_near : ℕ → ℕ → ℕ → Bool
 is_near settle start change = nat_lt start (change + settle)
 
--- a MAP with this header, of the frame that starts there, settles: it has another UCD count than the last MAP, or starts
--- less than the configuration says behind the last that changed. Where the configuration says 0 none does
+-- a MAP with this header, of the frame that starts there, settles: it has another UCD count than the last MAP, or
+-- starts less than the configuration says behind the last that changed. Where the configuration says 0 none does
 abbrev pub settles_by : Config → Header → Settling → ℕ → Bool
 settles_by c header s next = nat_lt 0 c.settle
     && (not (header.ucd_count == s.count) || option_map_or (is_near c.settle next) s.change false)

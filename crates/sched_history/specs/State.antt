@@ -91,8 +91,8 @@ pub record IsKeptOf (s : State) (h : List Entry) : Type 0 where
   pub bounded : IsBounded s.config s.book.flows s.next (length h)
   pub legal : IsLegal s.config h
 
--- What is so of what every legal history leaves: its bounds; the flows are those that a channel may have, and the placed
--- ones the periodic ones; the Reserves may wait, and are few
+-- What is so of what every legal history leaves: its bounds; the flows are those that a channel may have, and the
+-- placed ones the periodic ones; the Reserves may wait, and are few
 pub record IsSoundIn (c : Config) (x : Situation) : Type 0 where
   pub bounded : IsBounded c x.flows x.next x.entries
   pub channel : AreOfChannel x.flows

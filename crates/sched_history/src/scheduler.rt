@@ -84,9 +84,9 @@ impl Scheduler {
 
     /// Answers a call and records it, with its stamp and its reply. A call that is not recorded changes
     /// nothing: one where as many entries are kept as the configuration allows, or the whole history has
-    /// [`MAX_WHOLE_HISTORY`](crate::MAX_WHOLE_HISTORY), before any refusal, and an admission, a change or a build that no
-    /// refusal meets, where memory ran out. Every other call takes no memory. [`Scheduler::record`] does the same without
-    /// a second reply.
+    /// [`MAX_WHOLE_HISTORY`](crate::MAX_WHOLE_HISTORY), before any refusal, and an admission, a change or a build that
+    /// no refusal meets, where memory ran out. Every other call takes no memory. [`Scheduler::record`] does the same
+    /// without a second reply.
     pub fn call(&mut self, stamp: Stamp, call: Call) -> Result<Reply, Unrecorded>
         // A reply is recorded, and may follow the history.
         ensures recorded { IfOk result (λ reply. self.new ≡ record self.old {

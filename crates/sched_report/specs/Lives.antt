@@ -14,8 +14,8 @@ use Rattle.sched_history.specs.Life.{turn_of, change_by}
 use Rattle.sched_report.specs.declared.lives.Opening.{Opening}
 
 -- A life of a flow: its SID, the parameters with which it was admitted, the entries up to its admission, those after it
--- up to its end, and whether it ended; and how many entries of the history behind its admission, also behind its end, come
--- before what is told
+-- up to its end, and whether it ended; and how many entries of the history behind its admission, also behind its end,
+-- come before what is told
 pub record PastLife : Type 0 where
   pub sid : ℕ
   pub first : FlowSpec

@@ -21,8 +21,8 @@ use Rattle.sched_report.specs.Served.{IsServiceOf, IsServiceAfter, HasRoom}
 use Rattle.sched_report.specs.Lives.{PastLife, is_turn, is_told, spec_of}
 use Rattle.sched_report.specs.Said.{unsolicited_in, granted_before, carried_in}
 
--- What is told is of this life: it lived from the next frame at its admission, or where what is told begins, to the next
--- frame at its end, and asked and was granted what the entries in between have
+-- What is told is of this life: it lived from the next frame at its admission, or where what is told begins, to the
+-- next frame at its end, and asked and was granted what the entries in between have
 pub record IsLifeOf (c : Config) (t : LifeTally) (life : PastLife) : Type 0 where
   pub sid : t.sid ≡ life.sid
   pub spec : t.spec ≡ spec_of life

@@ -66,11 +66,11 @@ pub record MayFollow (c : Config) (passed : ℕ) (h : List Entry) (ts : List Lif
   pub meets : met ≡ met_after c h e.reply
   pub passed_few : passed ≤ length h
 
--- These are the numbers of a life: where the next frame started at its admission or where what is told begins, and where
--- it started at its end or starts now, whether it ended, what was outstanding when that began, what it asked and was
--- granted, its requests that were not served, for how long the first of those that wait has waited, the delays that 50
--- and 99 in a hundred of those that were served do not exceed, and how often it waited under its reservation and at a
--- ceiling
+-- These are the numbers of a life: where the next frame started at its admission or where what is told begins, and
+-- where it started at its end or starts now, whether it ended, what was outstanding when that began, what it asked and
+-- was granted, its requests that were not served, for how long the first of those that wait has waited, the delays that
+-- 50 and 99 in a hundred of those that were served do not exceed, and how often it waited under its reservation and at
+-- a ceiling
 pub record AreLifeNumbers (c : Config) (n : LifeNumbers) (life : PastLife) : Type 0 where
   pub sid : n.sid ≡ life.sid
   pub spec : n.spec ≡ spec_of life

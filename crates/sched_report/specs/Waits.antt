@@ -26,16 +26,16 @@ abbrev pub HasCounted : List ℕ → List LifeTally → List ℕ → List ℕ �
 HasCounted sids ts old new = (k n : ℕ) (t : LifeTally) → k < length ts
     → slice_index_or new k n ≡ slice_index_or old k n + counted_by sids (slice_index_or ts k t)
 
--- What is counted is of the lives of this history behind so many of its entries, each at its place; a MAP counts at most
--- the flows that may live
+-- What is counted is of the lives of this history behind so many of its entries, each at its place; a MAP counts at
+-- most the flows that may live
 pub record AreWaits (standing : Standing) (c : Config) (passed : ℕ) (h : List Entry) (counts : List ℕ) : Type 0 where
   pub long : length counts ≡ length (lives_in passed h)
   pub each : (k n : ℕ) (life : PastLife) → k < length counts
       → slice_index_or counts k n ≡ waits_in standing c (slice_index_or (lives_in passed h) k life)
   pub few : (k n : ℕ) → k < length counts → slice_index_or counts k n ≤ 8192 * length h
 
--- The entry may follow this history, of whose lives this is told and counted behind so many of its entries, and the flows
--- of these SIDs wait and stand so where its MAP starts
+-- The entry may follow this history, of whose lives this is told and counted behind so many of its entries, and the
+-- flows of these SIDs wait and stand so where its MAP starts
 pub record MayCountWaits (standing : Standing) (c : Config) (passed : ℕ) (h : List Entry) (ts : List LifeTally)
     (old sids : List ℕ) (e : Entry) : Type 0 where
   pub lawful : IsLawful c

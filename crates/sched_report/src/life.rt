@@ -78,7 +78,8 @@ pub struct LifeNumbers {
     pub middle: Option<u64>,
     /// That of 99 in a hundred.
     pub p99: Option<u64>,
-    /// The MAPs of its life, but those that settle, at whose starts it waited for bytes under its minimum reserved rate.
+    /// The MAPs of its life, but those that settle, at whose starts it waited for bytes under its minimum reserved
+    /// rate.
     pub under: u64,
     /// Those at whose starts it waited for bytes while its rate or its peak had no room for the quantum, or for all
     /// that it waited for where that was less.

@@ -97,8 +97,8 @@ impl Reporter {
         Ok(())
     }
 
-    /// Tells from here on of what follows alone, with the flows that live. Their requests that wait are told of no more;
-    /// the bytes that are outstanding are carried.
+    /// Tells from here on of what follows alone, with the flows that live. Their requests that wait are told of no
+    /// more; the bytes that are outstanding are carried.
     pub fn renew(&mut self)
         ensures { self.new ≡ record self.old { passed = length self.old.history } }
     {

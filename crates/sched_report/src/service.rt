@@ -198,8 +198,8 @@ impl Service {
         }
     }
 
-    /// Forgets the requests, those that wait among them: what is told begins anew. Answers the bytes that were asked, and
-    /// those granted.
+    /// Forgets the requests, those that wait among them: what is told begins anew. Answers the bytes that were asked,
+    /// and those granted.
     pub fn renew(&mut self) -> (u64, u64)
         requires { (c : Config) × (claims : List Claim) × (bytes : ℕ) × (grants : List DataGrant)
             × IsServiceOf c self.old claims bytes grants }

@@ -29,8 +29,8 @@ use std::alloc::{AllocError, Global};
 
 impl Table {
     /// Gives a placed flow other parameters and places it anew, as [`Table::place`] does, its own placement taken out
-    /// before. It does not rest. Its placement is answered, and where it is asked for `twice` once more in memory of its
-    /// own. After a fault nothing has changed.
+    /// before. It does not rest. Its placement is answered, and where it is asked for `twice` once more in memory of
+    /// its own. After a fault nothing has changed.
     pub fn place_anew(
         &mut self,
         sid: u16,

@@ -94,8 +94,8 @@ impl Auditor {
     }
 
     /// What the MAP of an entry meets of the opportunities that wait after the entries that were taken, where its reply
-    /// may follow them: nothing where it has none. What is met goes by where elements begin, and never by what they say,
-    /// so it is asked before [`Auditor::judge`] takes the entry.
+    /// may follow them: nothing where it has none. What is met goes by where elements begin, and never by what they
+    /// say, so it is asked before [`Auditor::judge`] takes the entry.
     pub fn met(&self, entry: &Entry) -> Result<Vec<Met>, AllocError>
         ensures met { IfOk result (λ met. IsStep self.now.config self.now.history entry.now.call entry.now.reply
             → met.items ≡ met_after self.now.config self.now.history entry.now.reply) }

@@ -165,8 +165,8 @@ impl State {
         }
     }
 
-    // Follows a change of a periodic flow: the reply has the placement that it keeps or a lawful one, or says that there
-    // is none.
+    // Follows a change of a periodic flow: the reply has the placement that it keeps or a lawful one, or says that
+    // there is none.
     pub(super) fn follow_change(
         &mut self,
         sid: u16,

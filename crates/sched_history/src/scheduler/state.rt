@@ -193,8 +193,8 @@ impl State {
         }
     }
 
-    // Admits a flow whose placement stands in the table. The answer that is handed out is made before, where it is asked
-    // for. Where memory runs out nothing has changed.
+    // Admits a flow whose placement stands in the table. The answer that is handed out is made before, where it is
+    // asked for. Where memory runs out nothing has changed.
     fn admit_placed(
         &mut self,
         alloc: Global,
