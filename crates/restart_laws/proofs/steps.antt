@@ -1,0 +1,6 @@
+-- Steps of situations of one state.
+pub mod Refusals
+pub mod Demands
+pub mod Answers
+pub mod FlowsAfter
+pub mod Step

@@ -1,0 +1,3 @@
+-- Tables of placements that have one state.
+pub mod Alike
+pub mod Carried
