@@ -9,10 +9,10 @@ use Rattle.sched_calls.specs.declared.reply.Entry.{Entry}
 use Rattle.sched_calls.specs.declared.state.ChannelState.{ChannelState}
 use Rattle.map_build.specs.Spots.{ArePeriodicOf}
 use Rattle.sched_history.specs.Situation.{Situation, after, situation_of}
-use Rattle.sched_history.specs.History.{IsStepIn, IsStep, IsLegal, IsLegalFrom}
+use Rattle.sched_history.specs.History.{IsStep, IsLegal, IsLegalFrom}
 use Rattle.sched_history.specs.ChannelState.{state_in, state_of}
 use Rattle.restart_laws.specs.Carried.{carried}
-use Rattle.restart_laws.specs.Restart.{StepFrom, LegalFrom, IsRestart, IsEveryRestart}
+use Rattle.restart_laws.specs.Restart.{StepFrom, LegalFrom, IsEveryRestart}
 use Rattle.sched_history.proofs.situations.Leaving.{situation_of-push}
 use Rattle.sched_history.proofs.placements.PeriodicFlows.{ArePeriodicOf-legal}
 use Rattle.sched_history.proofs.steps.Steps.{IsLegal-push}
@@ -55,19 +55,21 @@ module _ (c : Config) (lawful : IsLawful c) where
         let goes = step-alike c left told told-alike left-steady told-steady left-periodic call reply step in
         (state_in c (after c told call reply), record { step = goes.step; leaves = refl })
 
-    module _ (call : Call) (reply : Reply) (next : ChannelState) (from : StepFrom c (state_of c h) call reply next) where
-      -- one that may follow its state may follow it, and leaves what is like what it leaves there
-      goes-back : IsStepOfBoth c told left call reply
-      goes-back =
-          step-alike c told left (alike-sym c left told told-alike) told-steady left-steady told-periodic call reply from.step
+    module _ (call : Call) (reply : Reply) (next : ChannelState) (from : StepFrom c (state_of c h) call reply next)
+      where
+        -- one that may follow its state may follow it, and leaves what is like what it leaves there
+        goes-back : IsStepOfBoth c told left call reply
+        goes-back =
+            step-alike c told left (alike-sym c left told told-alike) told-steady left-steady told-periodic call reply
+            from.step
 
-      -- so what it leaves there is the state of the history with that entry
-      left-there : (stamp : Stamp)
-          → next ≡ state_of c (h ++ record { stamp = stamp; call = call; reply = reply } ∷ [])
-      left-there stamp =
-          from.leaves ∙ state-alike c (after c told call reply) (after c left call reply) goes-back.alike
-          ∙ ap (state_in c)
-          (sym (situation_of-push c h (record { stamp = stamp; call = call; reply = reply }) goes-back.step))
+        -- so what it leaves there is the state of the history with that entry
+        left-there : (stamp : Stamp)
+            → next ≡ state_of c (h ++ record { stamp = stamp; call = call; reply = reply } ∷ [])
+        left-there stamp =
+            from.leaves ∙ state-alike c (after c told call reply) (after c left call reply) goes-back.alike
+            ∙ ap (state_in c)
+            (sym (situation_of-push c h (record { stamp = stamp; call = call; reply = reply }) goes-back.step))
 
   legal-from : (h es : List Entry) → IsLegal c h → IsLegalFrom c (situation_of c h) es → LegalFrom c (state_of c h) es
   legal-from h [] legal goes = tt

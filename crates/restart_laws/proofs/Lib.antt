@@ -5,3 +5,7 @@ pub mod tables
 pub mod steps
 pub mod states
 pub mod Law
+pub mod RowsCarried
+pub mod RowsTaking
+pub mod RowsStates
+pub mod RowsHistory

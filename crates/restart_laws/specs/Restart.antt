@@ -12,7 +12,8 @@ use Rattle.sched_history.specs.History.{IsStep, IsStepIn, IsLegal}
 use Rattle.sched_history.specs.ChannelState.{state_in, state_of}
 use Rattle.restart_laws.specs.Carried.{carried}
 
--- The reply to a call may follow a state, and leaves this one: by the rules for histories, over flows with carried grants
+-- The reply to a call may follow a state, and leaves this one: by the rules for histories, over flows with carried
+-- grants
 pub record StepFrom (c : Config) (s : ChannelState) (call : Call) (reply : Reply) (left : ChannelState) : Type 0 where
   pub step : IsStepIn c (carried c s) call reply
   pub leaves : left ≡ state_in c (after c (carried c s) call reply)

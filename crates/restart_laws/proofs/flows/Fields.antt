@@ -52,6 +52,7 @@ module _ (c : Config) (f g : LiveFlow) where
       → batch_state f.batches f.asked (granted f) ≡ batch_state g.batches g.asked (granted g) → AlikeFlow c f g
   alike-of = same-state _ _ _ _ _ _ _ _ _ _ _ _ _ _ _ _ _ _
 
+  -- flows of one state have each part of it alike
   module _ (same : AlikeFlow c f g) where
     pub sid-alike : f.sid ≡ g.sid
     sid-alike = ap (λ (s : FlowState). s.sid) same

@@ -1,5 +1,5 @@
 -- Where the placed flows are the periodic ones they are so in alike flows and tables.
-use Rattle.std.proofs.Common.{◌≡◌, refl, sym, ap, ◌∙◌, ℕ, List, [], ◌∷◌, map, filter}
+use Rattle.std.proofs.Common.{◌≡◌, refl, sym, ap, ◌∙◌, List, [], ◌∷◌, map, filter}
 use Rattle.minislots.specs.declared.config.Config.{Config}
 use Rattle.sched_calls.specs.FlowSpec.{is_periodic}
 use Rattle.flow_book.specs.Flows.{LiveFlow}
@@ -20,7 +20,8 @@ module _ (c : Config) {K : Type 0} where
 
   -- and so have the periodic ones of alike flows
   periodic-keys : (key : LiveFlow → K) → ((f g : LiveFlow) → AlikeFlow c f g → key f ≡ key g) → (fs gs : List LiveFlow)
-      → AlikeFlows c fs gs → map key (filter (λ f. is_periodic f.spec) fs) ≡ map key (filter (λ g. is_periodic g.spec) gs)
+      → AlikeFlows c fs gs
+      → map key (filter (λ f. is_periodic f.spec) fs) ≡ map key (filter (λ g. is_periodic g.spec) gs)
   periodic-keys key each fs gs alike =
       made-alike c key key each (filter (λ f. is_periodic f.spec) fs) (filter (λ g. is_periodic g.spec) gs)
       (filter-alike c (λ f. is_periodic f.spec) (λ g. is_periodic g.spec)

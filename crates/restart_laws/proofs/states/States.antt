@@ -1,5 +1,5 @@
 -- Two situations that are alike have one state, and the situation that a state stands for is like the one that has it.
-use Rattle.std.proofs.Common.{◌≡◌, refl, sym, ap, ◌∙◌, ℕ, ◌+◌, ◌*◌, ◌<◌, ◌≤◌, List, [], ◌∷◌, map, Option, arith}
+use Rattle.std.proofs.Common.{◌≡◌, refl, sym, ap, ◌∙◌, ℕ, ◌<◌, List, [], ◌∷◌, map, Option, arith}
 use Rattle.std.specs.List.{AllByRecursion}
 use Rattle.minislots.specs.declared.config.Config.{Config}
 use Rattle.minislots.specs.Config.{IsLawful}
@@ -56,7 +56,8 @@ module _ (c : Config) where
   -- situations that are alike have one state
   pub state-alike : (x y : Situation) → IsAlike c x y → state_in c x ≡ state_in c y
   state-alike x y alike =
-      same-parts x.entries y.entries x.next y.next x.progress y.progress x.ack y.ack x.header y.header x.settling y.settling
+      same-parts x.entries y.entries x.next y.next x.progress y.progress x.ack y.ack x.header y.header x.settling
+      y.settling
       (map (flow_state_in c x.placed) x.flows) (map (flow_state_in c y.placed) y.flows)
       (map reserve_state x.reserves) (map reserve_state y.reserves) alike.entries alike.next alike.progress alike.ack
       alike.header alike.settling

@@ -9,7 +9,8 @@ use Rattle.sched_calls.specs.declared.state.PlaceState.{PlaceState}
 use Rattle.sched_calls.specs.FlowSpec.{size_of, interval_frames, periodic_slots, grants_of}
 use Rattle.periodic.specs.declared.TheConstants.{MAX_SPOTS}
 use Rattle.periodic.specs.declared.placement.Spot.{Spot}
-use Rattle.periodic.specs.Placement.{Placed, phase_of, offset_of, group_at, starts_in, spots_of, spots_in, due_of, due_in, AreLawfulStarts, IsPlacement, NoPlacement, IsToldFrom}
+use Rattle.periodic.specs.Placement.{Placed, phase_of, offset_of, group_at, starts_in, spots_of, spots_in, due_of}
+use Rattle.periodic.specs.Placement.{due_in, AreLawfulStarts, IsPlacement, NoPlacement, IsToldFrom}
 use Rattle.periodic.specs.PlaceState.{place_state, place_state_of}
 use Rattle.periodic.specs.Table.{with_placed, without, resting, with_rest}
 use Rattle.restart_laws.proofs.Alike.{AlikePlaced, AlikeTables}
@@ -76,8 +77,8 @@ module _ (c : Config) (p q : Placed) (alike : AlikePlaced c p q) where
   pub place-alike : place_state c p ≡ place_state c q
   place-alike =
       place-same (phase_of c p.spec p.placement) (phase_of c q.spec q.placement) (offset_of c p.placement)
-      (offset_of c q.placement) p.placement.starts q.placement.starts p.rests q.rests alike.phase alike.offset alike.starts
-      alike.rests
+      (offset_of c q.placement) p.placement.starts q.placement.starts p.rests q.rests alike.phase alike.offset
+      alike.starts alike.rests
 
   -- the other way round
   pub placed-sym : AlikePlaced c q p
@@ -193,8 +194,9 @@ module _ (c : Config) where
   with_placed-alike p q [] (s ∷ qs) new alike = absurd alike
   with_placed-alike p q (r ∷ ps) [] new alike = absurd alike
   with_placed-alike p q (r ∷ ps) (s ∷ qs) new alike =
-      cond-alike (AlikeTables c) (nat_lt p.sid r.sid) (nat_lt q.sid s.sid) (p ∷ r ∷ ps) (q ∷ s ∷ qs) (r ∷ with_placed p ps)
-      (s ∷ with_placed q qs) (ap (λ n. nat_lt n r.sid) new.sid ∙ ap (λ n. nat_lt q.sid n) alike.0.sid)
+      cond-alike (AlikeTables c) (nat_lt p.sid r.sid) (nat_lt q.sid s.sid) (p ∷ r ∷ ps) (q ∷ s ∷ qs)
+      (r ∷ with_placed p ps) (s ∷ with_placed q qs)
+      (ap (λ n. nat_lt n r.sid) new.sid ∙ ap (λ n. nat_lt q.sid n) alike.0.sid)
       (new, (alike.0, alike.1)) (alike.0, with_placed-alike p q ps qs new alike.1)
 
   -- with the flow of a SID taken out
@@ -205,8 +207,8 @@ module _ (c : Config) where
   without-alike sid (p ∷ ps) [] alike = absurd alike
   without-alike sid (p ∷ ps) (q ∷ qs) alike =
       let rest = without-alike sid ps qs alike.1 in
-      cond-alike (AlikeTables c) (not (p.sid == sid)) (not (q.sid == sid)) (p ∷ without sid ps) (q ∷ without sid qs) (without sid ps)
-      (without sid qs) (ap (λ n. not (n == sid)) alike.0.sid) (alike.0, rest) rest
+      cond-alike (AlikeTables c) (not (p.sid == sid)) (not (q.sid == sid)) (p ∷ without sid ps)
+      (q ∷ without sid qs) (without sid ps) (without sid qs) (ap (λ n. not (n == sid)) alike.0.sid) (alike.0, rest) rest
 
   -- and with that flow at rest or awake
   pub with_rest-alike : (sid : ℕ) (rests : Bool) (ps qs : List Placed) → AlikeTables c ps qs
@@ -215,8 +217,8 @@ module _ (c : Config) where
   with_rest-alike sid rests [] (q ∷ qs) alike = absurd alike
   with_rest-alike sid rests (p ∷ ps) [] alike = absurd alike
   with_rest-alike sid rests (p ∷ ps) (q ∷ qs) alike = (
-    cond-alike (AlikePlaced c) (p.sid == sid) (q.sid == sid) (resting rests p) (resting rests q) p q (ap (λ n. n == sid) alike.0.sid)
-        (resting-alike c p q alike.0 rests) alike.0,
+    cond-alike (AlikePlaced c) (p.sid == sid) (q.sid == sid) (resting rests p) (resting rests q) p q
+        (ap (λ n. n == sid) alike.0.sid) (resting-alike c p q alike.0 rests) alike.0,
     with_rest-alike sid rests ps qs alike.1,
   )
 

@@ -1,19 +1,18 @@
 -- The table of a state is like the one that has the state.
-use Rattle.std.proofs.Common.{◌≡◌, refl, sym, ap, ◌∙◌, subst, ℕ, ◌+◌, ◌*◌, ◌/◌, ◌%◌, ◌<◌, Bool, true, false, ◌==◌, cond}
+use Rattle.std.proofs.Common.{◌≡◌, refl, sym, ap, ◌∙◌, subst, ℕ, ◌/◌, ◌%◌, ◌<◌, Bool, true, false, ◌==◌, cond}
 use Rattle.std.proofs.Common.{List, [], ◌∷◌, map, filter, find, Option, None, Some, option_map, arith}
 use Rattle.std.specs.List.{AllByRecursion, cons_option}
 use Rattle.std.proofs.Math.Nat.{mod-lt, mod-mod}
 use Rattle.std.proofs.lemmas.Bool.Decides.{nat_tests}
 use Rattle.std.proofs.lemmas.Nat.{div-mul-add, mod-mul-add}
 use Rattle.minislots.specs.declared.config.Config.{Config}
-use Rattle.sched_calls.specs.declared.spec.FlowSpec.{FlowSpec}
 use Rattle.sched_calls.specs.declared.state.FlowState.{FlowState}
 use Rattle.sched_calls.specs.FlowSpec.{is_periodic, interval_frames}
 use Rattle.sched_calls.specs.Sids.{AscendBy}
 use Rattle.flow_book.specs.Flows.{LiveFlow, flow_of}
 use Rattle.flow_book.specs.Book.{Ascend}
 use Rattle.periodic.specs.Placement.{Placed}
-use Rattle.periodic.specs.PlaceState.{place_state, place_state_of}
+use Rattle.periodic.specs.PlaceState.{place_state}
 use Rattle.channel_states.specs.PossiblePlaces.{placed_at, placed_of, placed_in}
 use Rattle.map_build.specs.Spots.{ArePeriodicOf}
 use Rattle.sched_history.specs.ChannelState.{flow_state_in}
@@ -94,9 +93,10 @@ module _ (c : Config) (some : 0 < c.frame) where
         (cons_option (placed_of c (flow_state_in c table f)) (placed_in c (map (flow_state_in c table) flows)))
     carried-first f flows true is unplaced rest [] sids specs found = absurd cc
     carried-first f flows true is unplaced rest (p ∷ ps) sids specs found =
-        let periodic : List LiveFlow = filter (λ g. is_periodic g.spec) flows in
-        let own = first-same p.sid f.sid (map (λ (q : Placed). q.sid) ps) (map (λ (g : LiveFlow). g.sid) periodic) sids in
-        let has = first-same p.spec f.spec (map (λ (q : Placed). q.spec) ps) (map (λ (g : LiveFlow). g.spec) periodic) specs in
+        let others : List LiveFlow = filter (λ g. is_periodic g.spec) flows in
+        let own = first-same p.sid f.sid (map (λ (q : Placed). q.sid) ps) (map (λ (g : LiveFlow). g.sid) others) sids in
+        let has =
+        first-same p.spec f.spec (map (λ (q : Placed). q.spec) ps) (map (λ (g : LiveFlow). g.spec) others) specs in
         let here : find (λ q. q.sid == f.sid) table ≡ Some p =
         subst (λ n. find (λ q. q.sid == n) table ≡ Some p) own.0 found.0 in
         rw (here-placed f (Some p) here)
