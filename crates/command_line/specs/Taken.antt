@@ -1,6 +1,7 @@
 -- The words that a command takes.
 use Rattle.std.specs.Prelude.{◌≡◌, ℕ, List, map, false}
 use Rattle.clap.specs.Words.{Rule, Shape, app_of}
+use Rattle.clap.specs.declared.builder.arg.Arg.{Arg}
 use Rattle.clap.specs.declared.builder.command.Command.{Command}
 use Rattle.clap.specs.declared.builder.command.Command.TheViews.{out-Command as fields_of}
 
@@ -11,6 +12,11 @@ ids_of rules = map (λ (r : Rule). r.id) rules
 -- a command's name, and the ids of its arguments
 abbrev pub words_of : Shape → List ℕ × List (List ℕ)
 words_of s = (s.name, ids_of s.rules)
+
+-- an argument of this id, which does not count for a subcommand too
+pub record IsOption (a : Arg) (id : List ℕ) : Type 0 where
+  pub named : a.id.now ≡ id
+  pub local : a.global ≡ false
 
 -- a command of this name, with arguments of these ids and with subcommands of these names and ids, all in this order;
 -- no argument counts for a subcommand too

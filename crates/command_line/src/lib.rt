@@ -6,8 +6,8 @@ mod help;
 mod input;
 mod terminals;
 
-ghost use Rattle.std.specs.Prelude.{◌≡◌, ◌∷◌, [], IfOk, false, codes};
-ghost use Rattle.command_line.specs.Taken.{IsCommand};
+ghost use Rattle.std.specs.Prelude.{◌∷◌, ◌++◌, [], IfOk, codes};
+ghost use Rattle.command_line.specs.Taken.{IsCommand, IsOption};
 
 use clap::builder::ValueParser;
 use clap::{Arg, ArgAction, Command};
@@ -29,27 +29,65 @@ fn command<'a>(alloc: Global, name: &'a str, about: &'a str, after: &'a str) -> 
     Command::new(alloc, name).about(about).after_help(after)
 }
 
+// A command with a word more.
+fn with_word<'a>(
+    command: Result<Command<'a>, AllocError>,
+    word: Arg<'a>,
+) -> Result<Command<'a>, AllocError>
+    ensures { (name id : _) (ids subs : _) → IfOk command.entry (λ c. IsCommand c name ids subs)
+        → IsOption word.entry id → IfOk result (λ r. IsCommand r name (ids ++ id ∷ []) subs) }
+{
+    command?.arg(word)
+}
+
+// A command with an option more.
+fn with_option<'a>(
+    command: Result<Command<'a>, AllocError>,
+    option: Result<Arg<'a>, AllocError>,
+) -> Result<Command<'a>, AllocError>
+    ensures { (name id : _) (ids subs : _) → IfOk command.entry (λ c. IsCommand c name ids subs)
+        → IfOk option.entry (λ a. IsOption a id) → IfOk result (λ r. IsCommand r name (ids ++ id ∷ []) subs) }
+{
+    command?.arg(option?)
+}
+
+// A program with a command more.
+fn with_command<'a>(
+    program: Result<Command<'a>, AllocError>,
+    command: Result<Command<'a>, AllocError>,
+) -> Result<Command<'a>, AllocError>
+    ensures { (name called : _) (ids words subs none : _) → IfOk program.entry (λ p. IsCommand p name ids subs)
+        → IfOk command.entry (λ c. IsCommand c called words none)
+        → IfOk result (λ r. IsCommand r name ids (subs ++ (called, words) ∷ [])) }
+{
+    program?.subcommand(command?)
+}
+
 // An option that is given or not.
 fn flag<'a>(alloc: Global, name: &'a str, help: &'a str) -> Arg<'a>
-    ensures named { result.id.now ≡ name.entry.now }
-    ensures local { result.global ≡ false }
+    ensures { IsOption result name.entry.now }
 {
     let option = Arg::new(alloc, name).long(name);
     option.action(ArgAction::SetTrue).help(help)
 }
 
+// An option that is not given beside another.
+fn against<'a>(option: Result<Arg<'a>, AllocError>, other: &'a str) -> Result<Arg<'a>, AllocError>
+    ensures { (id : _) → IfOk option.entry (λ a. IsOption a id) → IfOk result (λ a. IsOption a id) }
+{
+    option?.conflicts_with(other)
+}
+
 // The file that is read in the place of standard input.
 fn file_word<'a>(alloc: Global) -> Arg<'a>
-    ensures named { result.id.now ≡ codes "FILE" }
-    ensures local { result.global ≡ false }
+    ensures { IsOption result (codes "FILE") }
 {
     Arg::new(alloc, "FILE").help("The file that is read, or - for standard input")
 }
 
 // What a run prints as a journal, in place of its history.
 fn run_journal_option<'a>(alloc: Global) -> Result<Arg<'a>, AllocError>
-    ensures named { IfOk result (λ r. r.id.now ≡ codes "journal") }
-    ensures local { IfOk result (λ r. r.global ≡ false) }
+    ensures { IfOk result (λ r. IsOption r (codes "journal")) }
 {
     let about = "Prints the history as a journal, a line for each entry";
     flag(alloc, "journal", about).conflicts_with("history")
@@ -57,31 +95,25 @@ fn run_journal_option<'a>(alloc: Global) -> Result<Arg<'a>, AllocError>
 
 // The words behind refusals.
 fn run_explain_option<'a>(alloc: Global) -> Result<Arg<'a>, AllocError>
-    ensures named { IfOk result (λ r. r.id.now ≡ codes "explain") }
-    ensures local { IfOk result (λ r. r.global ≡ false) }
+    ensures { IfOk result (λ r. IsOption r (codes "explain")) }
 {
-    flag(alloc, "explain", "Says after each refusal what it means")
-        .conflicts_with("history")?
-        .conflicts_with("journal")
+    let explain = flag(alloc, "explain", "Says after each refusal what it means");
+    against(explain.conflicts_with("history"), "journal")
 }
 
 // The whole frames of MAPs.
 fn frames_flag<'a>(alloc: Global) -> Arg<'a>
-    ensures named { result.id.now ≡ codes "frames" }
-    ensures local { result.global ≡ false }
+    ensures { IsOption result (codes "frames") }
 {
     flag(alloc, "frames", "Prints the whole frame of each MAP")
 }
 
 // The whole frames of the MAPs of a run.
 fn run_frames_option<'a>(alloc: Global) -> Result<Arg<'a>, AllocError>
-    ensures named { IfOk result (λ r. r.id.now ≡ codes "frames") }
-    ensures local { IfOk result (λ r. r.global ≡ false) }
+    ensures { IfOk result (λ r. IsOption r (codes "frames")) }
 {
-    frames_flag(alloc)
-        .conflicts_with("history")?
-        .conflicts_with("explain")?
-        .conflicts_with("journal")
+    let frames = frames_flag(alloc).conflicts_with("history");
+    against(against(frames, "explain"), "journal")
 }
 
 // The command that runs a script.
@@ -92,18 +124,17 @@ fn run_command<'a>(alloc: Global) -> Result<Command<'a>, AllocError>
 {
     let about = "Reads a script from standard input and prints one line for each call";
     let history = flag(alloc, "history", "Prints the history of the calls in JSON");
-    command(alloc, "run", about, help::RUN)
-        .arg(history)?
-        .arg(run_journal_option(alloc)?)?
-        .arg(run_explain_option(alloc)?)?
-        .arg(run_frames_option(alloc)?)?
-        .arg(file_word(alloc))
+    let words = Ok(command(alloc, "run", about, help::RUN));
+    let words = with_word(words, history);
+    let words = with_option(words, run_journal_option(alloc));
+    let words = with_option(words, run_explain_option(alloc));
+    let words = with_option(words, run_frames_option(alloc));
+    with_word(words, file_word(alloc))
 }
 
 // The address of a sender.
 fn address_option<'a>(alloc: Global) -> Arg<'a>
-    ensures named { result.id.now ≡ codes "mac" }
-    ensures local { result.global ≡ false }
+    ensures { IsOption result (codes "mac") }
 {
     let address = Arg::new(alloc, "mac").long("mac").value_name("ADDRESS");
     address.help("The sender's address, or else 02:00:00:00:00:01")
@@ -111,8 +142,7 @@ fn address_option<'a>(alloc: Global) -> Arg<'a>
 
 // That a journal is read.
 fn journal_option<'a>(alloc: Global) -> Arg<'a>
-    ensures named { result.id.now ≡ codes "journal" }
-    ensures local { result.global ≡ false }
+    ensures { IsOption result (codes "journal") }
 {
     flag(alloc, "journal", "Reads a journal, of any length")
 }
@@ -123,16 +153,15 @@ fn pcap_command<'a>(alloc: Global) -> Result<Command<'a>, AllocError>
         (λ r. IsCommand r (codes "pcap") (codes "mac" ∷ codes "journal" ∷ codes "FILE" ∷ []) []) }
 {
     let about = "Reads a script from standard input and writes its MAPs as a capture for Wireshark";
-    command(alloc, "pcap", about, help::PCAP)
-        .arg(address_option(alloc))?
-        .arg(journal_option(alloc))?
-        .arg(file_word(alloc))
+    let words = Ok(command(alloc, "pcap", about, help::PCAP));
+    let words = with_word(words, address_option(alloc));
+    let words = with_word(words, journal_option(alloc));
+    with_word(words, file_word(alloc))
 }
 
 // The payload of the command `decode`.
 fn payload_word<'a>(alloc: Global) -> Arg<'a>
-    ensures named { result.id.now ≡ codes "HEX" }
-    ensures local { result.global ≡ false }
+    ensures { IsOption result (codes "HEX") }
 {
     Arg::new(alloc, "HEX").required(true).help(
         "The payload of a MAP in hexadecimal, or with --frame a whole frame, or - for lines of standard input",
@@ -141,8 +170,7 @@ fn payload_word<'a>(alloc: Global) -> Arg<'a>
 
 // The columns of a drawing.
 fn columns_option<'a>(alloc: Global) -> Result<Arg<'a>, AllocError>
-    ensures named { IfOk result (λ r. r.id.now ≡ codes "columns") }
-    ensures local { IfOk result (λ r. r.global ≡ false) }
+    ensures { IfOk result (λ r. IsOption r (codes "columns")) }
 {
     let columns = Arg::new(alloc, "columns").long("columns").value_name("N");
     columns
@@ -153,12 +181,10 @@ fn columns_option<'a>(alloc: Global) -> Result<Arg<'a>, AllocError>
 
 // The payload in JSON.
 fn decode_json_option<'a>(alloc: Global) -> Result<Arg<'a>, AllocError>
-    ensures named { IfOk result (λ r. r.id.now ≡ codes "json") }
-    ensures local { IfOk result (λ r. r.global ≡ false) }
+    ensures { IfOk result (λ r. IsOption r (codes "json")) }
 {
-    flag(alloc, "json", "Prints it in JSON, or what is wrong")
-        .conflicts_with("draw")?
-        .conflicts_with("explain")
+    let json = flag(alloc, "json", "Prints it in JSON, or what is wrong");
+    against(json.conflicts_with("draw"), "explain")
 }
 
 // The command that shows a payload.
@@ -179,20 +205,18 @@ fn decode_command<'a>(alloc: Global) -> Result<Command<'a>, AllocError>
         "frame",
         "Reads a whole frame: a MAP's, or a request's",
     );
-    let frame = frame.conflicts_with("explain")?;
-    command(alloc, "decode", about, help::DECODE)
-        .arg(payload_word(alloc))?
-        .arg(draw)?
-        .arg(columns_option(alloc)?)?
-        .arg(explain)?
-        .arg(frame)?
-        .arg(decode_json_option(alloc)?)
+    let words = Ok(command(alloc, "decode", about, help::DECODE));
+    let words = with_word(words, payload_word(alloc));
+    let words = with_word(words, draw);
+    let words = with_option(words, columns_option(alloc));
+    let words = with_word(words, explain);
+    let words = with_option(words, frame.conflicts_with("explain"));
+    with_option(words, decode_json_option(alloc))
 }
 
 // The verdict in JSON.
 fn audit_json_option<'a>(alloc: Global) -> Result<Arg<'a>, AllocError>
-    ensures named { IfOk result (λ r. r.id.now ≡ codes "json") }
-    ensures local { IfOk result (λ r. r.global ≡ false) }
+    ensures { IfOk result (λ r. IsOption r (codes "json")) }
 {
     flag(alloc, "json", "Prints the verdict in JSON").conflicts_with("explain")
 }
@@ -209,40 +233,35 @@ fn audit_command<'a>(alloc: Global) -> Result<Command<'a>, AllocError>
         "explain",
         "Says what was expected at the first illegal entry",
     );
-    command(alloc, "audit", about, help::AUDIT)
-        .arg(explain)?
-        .arg(audit_json_option(alloc)?)?
-        .arg(journal)?
-        .arg(file_word(alloc))
+    let words = Ok(command(alloc, "audit", about, help::AUDIT));
+    let words = with_word(words, explain);
+    let words = with_option(words, audit_json_option(alloc));
+    let words = with_word(words, journal);
+    with_word(words, file_word(alloc))
 }
 
 // The numbers of a report in JSON.
 fn report_json_option<'a>(alloc: Global) -> Result<Arg<'a>, AllocError>
-    ensures named { IfOk result (λ r. r.id.now ≡ codes "json") }
-    ensures local { IfOk result (λ r. r.global ≡ false) }
+    ensures { IfOk result (λ r. IsOption r (codes "json")) }
 {
     flag(alloc, "json", "Prints all numbers in JSON").conflicts_with("all")
 }
 
 // The numbers of a report as OpenMetrics.
 fn report_metrics_option<'a>(alloc: Global) -> Result<Arg<'a>, AllocError>
-    ensures named { IfOk result (λ r. r.id.now ≡ codes "openmetrics") }
-    ensures local { IfOk result (λ r. r.global ≡ false) }
+    ensures { IfOk result (λ r. IsOption r (codes "openmetrics")) }
 {
-    flag(alloc, "openmetrics", "Prints them as OpenMetrics text")
-        .conflicts_with("all")?
-        .conflicts_with("json")
+    let metrics = flag(alloc, "openmetrics", "Prints them as OpenMetrics text");
+    against(metrics.conflicts_with("all"), "json")
 }
 
 // The picture of a report.
 fn report_picture_option<'a>(alloc: Global) -> Result<Arg<'a>, AllocError>
-    ensures named { IfOk result (λ r. r.id.now ≡ codes "svg") }
-    ensures local { IfOk result (λ r. r.global ≡ false) }
+    ensures { IfOk result (λ r. IsOption r (codes "svg")) }
 {
-    flag(alloc, "svg", "Prints a picture of them in SVG")
-        .conflicts_with("all")?
-        .conflicts_with("json")?
-        .conflicts_with("openmetrics")
+    let picture = flag(alloc, "svg", "Prints a picture of them in SVG");
+    let picture = against(picture.conflicts_with("all"), "json");
+    against(picture, "openmetrics")
 }
 
 // The command that tells how a channel did.
@@ -260,16 +279,16 @@ fn report_command<'a>(alloc: Global) -> Result<Command<'a>, AllocError>
     let from = "Tells of no entry before this time";
     let to = "Tells of no entry from this time on";
     let lines = journal_option(alloc);
-    command(alloc, "report", about, help::REPORT)
-        .arg(all)?
-        .arg(report_json_option(alloc)?)?
-        .arg(report_metrics_option(alloc)?)?
-        .arg(report_picture_option(alloc)?)?
-        .arg(time_option(alloc, "from", from)?)?
-        .arg(time_option(alloc, "to", to)?)?
-        .arg(every_option(alloc)?)?
-        .arg(lines)?
-        .arg(file_word(alloc))
+    let words = Ok(command(alloc, "report", about, help::REPORT));
+    let words = with_word(words, all);
+    let words = with_option(words, report_json_option(alloc));
+    let words = with_option(words, report_metrics_option(alloc));
+    let words = with_option(words, report_picture_option(alloc));
+    let words = with_option(words, time_option(alloc, "from", from));
+    let words = with_option(words, time_option(alloc, "to", to));
+    let words = with_option(words, every_option(alloc));
+    let words = with_word(words, lines);
+    with_word(words, file_word(alloc))
 }
 
 // The command that tells what is wrong in a file.
@@ -277,9 +296,9 @@ fn check_command<'a>(alloc: Global) -> Result<Command<'a>, AllocError>
     ensures { IfOk result (λ r. IsCommand r (codes "check") (codes "json" ∷ codes "FILE" ∷ []) []) }
 {
     let about = "Reads a file from standard input and says what is wrong in it, or what it has";
-    command(alloc, "check", about, help::CHECK)
-        .arg(flag(alloc, "json", "Prints it in JSON"))?
-        .arg(file_word(alloc))
+    let words = Ok(command(alloc, "check", about, help::CHECK));
+    let words = with_word(words, flag(alloc, "json", "Prints it in JSON"));
+    with_word(words, file_word(alloc))
 }
 
 // The command that runs scripts at the same time.
@@ -299,8 +318,7 @@ fn frames_option<'a>(
     most: u64,
     help: &'a str,
 ) -> Result<Arg<'a>, AllocError>
-    ensures named { IfOk result (λ r. r.id.now ≡ name.entry.now) }
-    ensures local { IfOk result (λ r. r.global ≡ false) }
+    ensures { IfOk result (λ r. IsOption r name.entry.now) }
 {
     let frames = Arg::new(alloc, name).long(name).value_name("N");
     Ok(
@@ -312,8 +330,7 @@ fn frames_option<'a>(
 
 // Where what a report tells begins, or ends.
 fn time_option<'a>(alloc: Global, name: &'a str, help: &'a str) -> Result<Arg<'a>, AllocError>
-    ensures named { IfOk result (λ r. r.id.now ≡ name.entry.now) }
-    ensures local { IfOk result (λ r. r.global ≡ false) }
+    ensures { IfOk result (λ r. IsOption r name.entry.now) }
 {
     let time = Arg::new(alloc, name).long(name).value_name("MS");
     Ok(
@@ -324,17 +341,14 @@ fn time_option<'a>(alloc: Global, name: &'a str, help: &'a str) -> Result<Arg<'a
 
 // How long each part is that a report tells of, one after the other.
 fn every_option<'a>(alloc: Global) -> Result<Arg<'a>, AllocError>
-    ensures named { IfOk result (λ r. r.id.now ≡ codes "every") }
-    ensures local { IfOk result (λ r. r.global ≡ false) }
+    ensures { IfOk result (λ r. IsOption r (codes "every")) }
 {
     let every = Arg::new(alloc, "every").long("every").value_name("MS");
-    every
+    let every = every
         .value_parser(ValueParser::unsigned(1, MOST_MILLISECONDS))
-        .help("Tells of one part of so many milliseconds after the other")
-        .conflicts_with("openmetrics")?
-        .conflicts_with("svg")?
-        .conflicts_with("from")?
-        .conflicts_with("to")
+        .help("Tells of one part of so many milliseconds after the other");
+    let every = against(every.conflicts_with("openmetrics"), "svg");
+    against(against(every, "from"), "to")
 }
 
 // The command that draws the frames of a run.
@@ -345,11 +359,14 @@ fn draw_command<'a>(alloc: Global) -> Result<Command<'a>, AllocError>
     let about = "Reads a script or a history from standard input and draws its frames in SVG";
     let from = "The first frame that is drawn, counted from 0";
     let count = "How many frames are drawn, or all";
-    command(alloc, "draw", about, help::DRAW)
-        .arg(frames_option(alloc, "from", 0, 17_592_186_044_416, from)?)?
-        .arg(frames_option(alloc, "count", 1, 16_777_216, count)?)?
-        .arg(flag(alloc, "journal", "Reads a journal"))?
-        .arg(file_word(alloc))
+    let words = Ok(command(alloc, "draw", about, help::DRAW));
+    let words = with_option(
+        words,
+        frames_option(alloc, "from", 0, 17_592_186_044_416, from),
+    );
+    let words = with_option(words, frames_option(alloc, "count", 1, 16_777_216, count));
+    let words = with_word(words, flag(alloc, "journal", "Reads a journal"));
+    with_word(words, file_word(alloc))
 }
 
 // The program, before its commands.
@@ -364,16 +381,14 @@ fn program<'a>(alloc: Global) -> Command<'a>
 
 // The whole frames of the MAPs of a conversation.
 fn live_frames_option<'a>(alloc: Global) -> Result<Arg<'a>, AllocError>
-    ensures named { IfOk result (λ r. r.id.now ≡ codes "frames") }
-    ensures local { IfOk result (λ r. r.global ≡ false) }
+    ensures { IfOk result (λ r. IsOption r (codes "frames")) }
 {
     frames_flag(alloc).conflicts_with("explain")
 }
 
 // The journal of a conversation.
 fn live_journal_option<'a>(alloc: Global) -> Arg<'a>
-    ensures named { result.id.now ≡ codes "journal" }
-    ensures local { result.global ≡ false }
+    ensures { IsOption result (codes "journal") }
 {
     let journal = Arg::new(alloc, "journal").long("journal");
     let help = "Records the calls in a journal, and continues the one that is there";
@@ -382,8 +397,7 @@ fn live_journal_option<'a>(alloc: Global) -> Arg<'a>
 
 // That what is recorded reaches the device.
 fn sync_option<'a>(alloc: Global) -> Result<Arg<'a>, AllocError>
-    ensures named { IfOk result (λ r. r.id.now ≡ codes "sync") }
-    ensures local { IfOk result (λ r. r.global ≡ false) }
+    ensures { IfOk result (λ r. IsOption r (codes "sync")) }
 {
     let about = "Answers a call when its entry has reached the device";
     flag(alloc, "sync", about).requires_arg("journal")
@@ -396,17 +410,16 @@ fn live_command<'a>(alloc: Global) -> Result<Command<'a>, AllocError>
 {
     let about = "Reads calls line by line and answers each before it waits for the next";
     let explain = flag(alloc, "explain", "Says after each refusal what it means");
-    command(alloc, "live", about, help::LIVE)
-        .arg(explain)?
-        .arg(live_frames_option(alloc)?)?
-        .arg(live_journal_option(alloc))?
-        .arg(sync_option(alloc)?)
+    let words = Ok(command(alloc, "live", about, help::LIVE));
+    let words = with_word(words, explain);
+    let words = with_option(words, live_frames_option(alloc));
+    let words = with_word(words, live_journal_option(alloc));
+    with_option(words, sync_option(alloc))
 }
 
 // The sizes of the bursts that are counted beside the usual ones.
 fn sizes_words<'a>(alloc: Global) -> Arg<'a>
-    ensures named { result.id.now ≡ codes "BYTES" }
-    ensures local { result.global ≡ false }
+    ensures { IsOption result (codes "BYTES") }
 {
     let sizes = Arg::new(alloc, "BYTES").num_args(1..);
     let sizes = sizes.action(ArgAction::Append);
@@ -422,9 +435,9 @@ fn bursts_command<'a>(alloc: Global) -> Result<Command<'a>, AllocError>
 {
     let about =
         "Reads a configuration from standard input and prints what bursts take on its channel";
-    command(alloc, "bursts", about, help::BURSTS)
-        .arg(sizes_words(alloc))?
-        .arg(flag(alloc, "json", "Prints all numbers in JSON"))
+    let words = Ok(command(alloc, "bursts", about, help::BURSTS));
+    let words = with_word(words, sizes_words(alloc));
+    with_word(words, flag(alloc, "json", "Prints all numbers in JSON"))
 }
 
 /// The commands of the program, with their options and their help. Out of memory is the only error.
@@ -447,15 +460,15 @@ pub fn commands<'a>(alloc: Global) -> Result<Command<'a>, AllocError>
         ∷ (codes "live", codes "explain" ∷ codes "frames" ∷ codes "journal" ∷ codes "sync" ∷ [])
         ∷ (codes "bursts", codes "BYTES" ∷ codes "json" ∷ []) ∷ [])) }
 {
-    program(alloc)
-        .subcommand(run_command(alloc)?)?
-        .subcommand(decode_command(alloc)?)?
-        .subcommand(draw_command(alloc)?)?
-        .subcommand(audit_command(alloc)?)?
-        .subcommand(report_command(alloc)?)?
-        .subcommand(storm_command(alloc)?)?
-        .subcommand(check_command(alloc)?)?
-        .subcommand(pcap_command(alloc)?)?
-        .subcommand(live_command(alloc)?)?
-        .subcommand(bursts_command(alloc)?)
+    let words = Ok(program(alloc));
+    let words = with_command(words, run_command(alloc));
+    let words = with_command(words, decode_command(alloc));
+    let words = with_command(words, draw_command(alloc));
+    let words = with_command(words, audit_command(alloc));
+    let words = with_command(words, report_command(alloc));
+    let words = with_command(words, storm_command(alloc));
+    let words = with_command(words, check_command(alloc));
+    let words = with_command(words, pcap_command(alloc));
+    let words = with_command(words, live_command(alloc));
+    with_command(words, bursts_command(alloc))
 }

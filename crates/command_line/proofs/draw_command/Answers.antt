@@ -1,17 +1,10 @@
 -- The options stand in their order.
-use Rattle.std.proofs.Common.{rules, codes, []}
-use Rattle.std.proofs.lemmas.Result.{IfOk-weaker}
-use Rattle.command_line.proofs.Adding.{IsCommand-arg}
+use Rattle.std.proofs.Common.{codes, []}
 use Rattle.command_line.proofs.draw_command.Goals as goal
 
 pub returns : goal.returns
 returns c =
-    let first = IsCommand-arg c.command.result _ c.in_ok-frames_option.field-0 (codes "draw")
-    (codes "from") [] [] c.command.ensures
-    c.in_ok-arg.ensures c.in_ok-frames_option.ensures.local c.in_ok-frames_option.ensures.named in
-    let second = IsCommand-arg _ _ c.in_ok-frames_option-2.field-0 (codes "draw") (codes "count") _ [] first
-    c.in_ok-arg-2.ensures c.in_ok-frames_option-2.ensures.local c.in_ok-frames_option-2.ensures.named in
-    let third = IsCommand-arg _ _ _ (codes "draw") (codes "journal") _ [] second c.in_ok-arg-3.ensures
-    (search rules) (search rules) in
-    IfOk-weaker _ _ _ (λ r adds. IsCommand-arg _ r _ (codes "draw") (codes "FILE") _ [] third adds
-    c.file_word.ensures.local c.file_word.ensures.named) c.arg-4.ensures
+    let first = c.with_option-words.ensures (codes "draw") (codes "from") [] [] c.command.ensures c.frames_option.ensures in
+    let second = c.with_option-words-2.ensures (codes "draw") (codes "count") _ [] first c.frames_option-2.ensures in
+    let third = c.with_word-words.ensures (codes "draw") (codes "journal") _ [] second c.flag.ensures in
+    c.with_word.ensures (codes "draw") (codes "FILE") _ [] third c.file_word.ensures

@@ -1,12 +1,9 @@
--- Its name, and no argument and no command yet.
-use Rattle.std.proofs.Common.{rules}
+-- Its version and its want of a command add no word.
+use Rattle.std.proofs.Common.{◌∙◌, ap}
+use Rattle.command_line.proofs.Adding.{IsCommand-same, shown_in}
 use Rattle.command_line.proofs.program.Goals as goal
 
 pub returns : goal.returns
 returns c =
-    record {
-      named = search rules;
-      arguments = search rules;
-      subcommands = search rules;
-      local = search rules;
-    }
+    IsCommand-same c.command.ensures
+    (ap shown_in c.subcommand_required.ensures ∙ ap shown_in c.version.ensures)

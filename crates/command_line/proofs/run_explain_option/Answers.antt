@@ -1,0 +1,10 @@
+-- A conflict with others leaves the id.
+use Rattle.std.proofs.Common.{codes}
+use Rattle.std.proofs.lemmas.Result.{IfOk-weaker}
+use Rattle.command_line.proofs.Options.{IsOption-conflict}
+use Rattle.command_line.proofs.run_explain_option.Goals as goal
+
+pub returns : goal.returns
+returns c =
+    let once = IfOk-weaker _ _ _ (λ r adds. IsOption-conflict c.flag-explain.ensures adds.0) c.conflicts_with.ensures in
+    c.against.ensures (codes "explain") once
