@@ -14,7 +14,7 @@ use Rattle.periodic.proofs.Joined.{all-weaker}
 use Rattle.periodic.proofs.Parameters.{HasPlaces}
 use Rattle.channel_states.specs.declared.nominal.Nominal.{Nominal}
 use Rattle.channel_states.specs.Nominal.{IsNominalOf, IsStartFrom, AreStartsFrom}
-use Rattle.channel_states.specs.PossibleFlow.{placement_of}
+use Rattle.periodic.specs.Carried.{placement_of}
 
 module _ (c : Config) (place : PlaceState) (within : place.offset < c.frame) where
   -- the nominal offset is the place's

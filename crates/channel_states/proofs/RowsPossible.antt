@@ -4,8 +4,9 @@ use Rattle.std.proofs.Common.{lit<, lit≤, arith}
 use Rattle.std.proofs.lemmas.Bool.{cases_lt}
 use Rattle.sched_calls.specs.FlowSpec.{first_fault}
 use Rattle.periodic.specs.Placement.{spots_in, starts_in, HasLawfulStarts, AreLawfulStarts}
-use Rattle.channel_states.specs.PossibleFlow.{placement_of, IsPossibleFlow}
-use Rattle.channel_states.specs.PossiblePlaces.{placed_in, MayStandTogether}
+use Rattle.channel_states.specs.PossibleFlow.{IsPossibleFlow}
+use Rattle.channel_states.specs.PossiblePlaces.{MayStandTogether}
+use Rattle.periodic.specs.Carried.{placement_of, placed_in}
 use Rattle.channel_states.specs.Possible.{IsPossible}
 use Rattle.channel_states.proofs.Worked.{channel, voice, polling, voice_place, voice_at, polled, polled_place}
 use Rattle.channel_states.proofs.Worked.{in_two_batches, in_one_batch, state}

@@ -14,7 +14,7 @@ use Rattle.periodic.specs.Placement.{Placed}
 use Rattle.periodic.specs.Table.{placed_grants, AreApart, IsSoundPlaced, AreSound}
 use Rattle.periodic.proofs.Frames.{in-cycle, spots_in-place}
 use Rattle.channel_states.specs.PossibleFlow.{IsPossibleFlow}
-use Rattle.channel_states.specs.PossiblePlaces.{placed_at, placed_in}
+use Rattle.periodic.specs.Carried.{placed_at, placed_in}
 use Rattle.channel_states.specs.Possible.{IsPossible}
 use Rattle.channel_states.proofs.Places.{offset-is}
 use Rattle.channel_states.proofs.Taking.{own-place}

@@ -13,8 +13,8 @@ use Rattle.periodic.specs.Placement.{phase_of, starts_in, spot_at, group_at}
 use Rattle.periodic.proofs.Choosing.{starts-at}
 use Rattle.periodic.proofs.Groups.{group-fits, index-within}
 use Rattle.periodic.proofs.Parameters.{HasPlaces, places_of}
-use Rattle.channel_states.specs.PossibleFlow.{placement_of, IsPossiblePlace, IsPossibleFlow}
-use Rattle.channel_states.specs.PossiblePlaces.{placed_at}
+use Rattle.channel_states.specs.PossibleFlow.{IsPossiblePlace, IsPossibleFlow}
+use Rattle.periodic.specs.Carried.{placement_of, placed_at}
 use Rattle.channel_states.specs.Taken.{taken_by, spot_from}
 use Rattle.channel_states.proofs.Places.{phase-is}
 

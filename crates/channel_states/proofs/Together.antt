@@ -8,7 +8,8 @@ use Rattle.periodic.specs.declared.placement.Spot.{Spot}
 use Rattle.periodic.specs.Placement.{Placed, spots_in}
 use Rattle.periodic.specs.Table.{IsApart}
 use Rattle.periodic.proofs.Joined.{apart-append, apart-left, apart-between, all-weaker}
-use Rattle.channel_states.specs.PossiblePlaces.{placed_of, placed_in, MayStandTogether}
+use Rattle.channel_states.specs.PossiblePlaces.{MayStandTogether}
+use Rattle.periodic.specs.Carried.{placed_of, placed_in}
 use Rattle.channel_states.specs.Taken.{spots_where, taken_by}
 
 -- a front of spots that may stand together may

@@ -3,6 +3,7 @@ pub use Rattle.minislots.specs.Units
 pub use Rattle.sched_calls.specs.FlowSpec
 pub use Rattle.sched_calls.specs.Sids
 pub use Rattle.periodic.specs.Placement
+pub use Rattle.periodic.specs.Carried
 pub use Rattle.periodic.specs.Table
 pub mod PossibleFlow
 pub mod PossiblePlaces

@@ -3,7 +3,6 @@ use Rattle.std.specs.Prelude.{◌≡◌, ℕ, ◌+◌, ◌*◌, ◌<◌, ◌≤�
 use Rattle.std.specs.Prelude.{IfSome, IfNone, MatchOption, [], IsNone}
 use Rattle.minislots.specs.declared.TheConstants.{MAX_ASK}
 use Rattle.minislots.specs.declared.config.Config.{Config}
-use Rattle.sched_calls.specs.declared.placement.Placement.{Placement}
 use Rattle.sched_calls.specs.declared.spec.FlowSpec.{FlowSpec}
 use Rattle.sched_calls.specs.declared.spec.TheConstants.{PEAK_BURST}
 use Rattle.sched_calls.specs.declared.state.BatchState.{BatchState}
@@ -12,6 +11,7 @@ use Rattle.sched_calls.specs.declared.state.PlaceState.{PlaceState}
 use Rattle.sched_calls.specs.FlowSpec.{is_periodic, takes_requests, rate_of, burst_of, peak_of, reserved_of}
 use Rattle.sched_calls.specs.FlowSpec.{reserved_burst_of, interval_frames, periodic_slots, first_fault}
 use Rattle.periodic.specs.Placement.{HasLawfulStarts}
+use Rattle.periodic.specs.Carried.{placement_of}
 
 -- the minislot is one of a frame that a MAP may have described: from the channel's start to before the next frame
 abbrev pub IsDescribed : Config → ℕ → ℕ → Type 0
@@ -42,11 +42,6 @@ pub record HasPossibleLevels (f : FlowState) : Type 0 where
   pub sustained : HasPossibleLevel (rate_of f.spec) (burst_of f.spec) f.last f.sustained
   pub peak : HasPossibleLevel (peak_of f.spec) PEAK_BURST f.last f.peak
   pub reserved : HasPossibleLevel (reserved_of f.spec) (reserved_burst_of f.spec) f.last f.reserved
-
--- the placement that a place stands for, told from the start of the first cycle on: its reference is the first of all
--- its nominal times
-abbrev pub placement_of : Config → PlaceState → Placement
-placement_of c place = record { reference = place.phase * c.frame + place.offset; starts = place.starts }
 
 -- A flow that may rest: it is unsolicited, so it takes no requests, and a grant of it has room for a poll
 pub record MayRest (c : Config) (spec : FlowSpec) : Type 0 where

@@ -6,7 +6,7 @@ use Rattle.sched_calls.specs.declared.state.FlowState.{FlowState}
 use Rattle.periodic.specs.declared.placement.Spot.{Spot}
 use Rattle.periodic.specs.Placement.{Placed, spots_of}
 use Rattle.channel_states.specs.declared.frame.Taken.{Taken}
-use Rattle.channel_states.specs.PossiblePlaces.{placed_of}
+use Rattle.periodic.specs.Carried.{placed_of}
 
 -- the spots that are taken
 abbrev pub taken_in : Taken → List Spot

@@ -7,7 +7,8 @@ ghost use Rattle.minislots.specs.Config.{IsLawful};
 ghost use Rattle.periodic.specs.Placement.{spots_in};
 ghost use Rattle.periodic.specs.Table.{IsApart};
 ghost use Rattle.channel_states.specs.PossibleFlow.{IsPossibleFlow};
-ghost use Rattle.channel_states.specs.PossiblePlaces.{placed_in, MayStandTogether, StandBeside};
+ghost use Rattle.channel_states.specs.PossiblePlaces.{MayStandTogether, StandBeside};
+ghost use Rattle.periodic.specs.Carried.{placed_in};
 ghost use Rattle.channel_states.specs.Taken.{taken_in, taken_by, spot_from};
 
 use crate::nominal::nominal_of;

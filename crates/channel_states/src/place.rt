@@ -3,7 +3,8 @@
 ghost use Rattle.std.specs.Prelude.{◌≡◌, ◌<◌, ◌≤◌, ◌^◌, true, false, None, [], length};
 ghost use Rattle.sched_calls.specs.FlowSpec.{is_periodic, first_fault};
 ghost use Rattle.periodic.specs.Placement.{HasLawfulStarts};
-ghost use Rattle.channel_states.specs.PossibleFlow.{HasPossiblePlace, IsPossiblePlace, MayRest, placement_of};
+ghost use Rattle.channel_states.specs.PossibleFlow.{HasPossiblePlace, IsPossiblePlace, MayRest};
+ghost use Rattle.periodic.specs.Carried.{placement_of};
 ghost use Rattle.channel_states.specs.Nominal.{IsNominalOf, IsStartFrom, AreStartsFrom};
 
 use crate::nominal::{Nominal, nominal_of};

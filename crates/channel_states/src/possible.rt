@@ -2,7 +2,7 @@
 
 ghost use Rattle.std.specs.Prelude.{IfSome, IfNone};
 ghost use Rattle.periodic.specs.Table.{AreSound};
-ghost use Rattle.channel_states.specs.PossiblePlaces.{placed_in};
+ghost use Rattle.periodic.specs.Carried.{placed_in};
 ghost use Rattle.channel_states.specs.Possible.{IsPossible};
 ghost use Rattle.channel_states.specs.Faults.{IsFirstFault};
 

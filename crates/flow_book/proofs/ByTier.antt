@@ -6,17 +6,20 @@ use Rattle.std.proofs.lemmas.Bool.{cases_eq}
 use Rattle.std.proofs.lemmas.Bool.Decides.{nat_tests}
 use Rattle.std.proofs.lemmas.Option.{slice_get-get_or, slice_get_past}
 use Rattle.minislots.specs.declared.config.Config.{Config}
-use Rattle.sched_calls.specs.FlowSpec.{rank_of, peak_of, reserved_of, reserved_burst_of}
+use Rattle.sched_calls.specs.FlowSpec.{rank_of, rate_of, burst_of, peak_of, reserved_of, reserved_burst_of, takes_requests}
 use Rattle.sched_calls.specs.declared.spec.TheConstants.{PEAK_BURST}
+use Rattle.sched_calls.specs.declared.spec.FlowSpec.{FlowSpec}
+use Rattle.sched_calls.specs.declared.spec.FlowSpec.TheVariants.{Unsolicited, Polled, BestEffort}
 use Rattle.flow_book.specs.declared.flow.Flow.{Flow}
 use Rattle.flow_book.specs.Flows.{Charge}
 use Rattle.flow_book.specs.declared.limits.Limits.{Limits}
 use Rattle.flow_book.specs.declared.waiting.Waiting.{Waiting}
 use Rattle.flow_book.specs.declared.tiers.Tier.{Tier}
-use Rattle.flow_book.specs.Bucket.{BucketView, StandsFor, IsSettled, HasOneMore, StaysSettled}
+use Rattle.flow_book.specs.Bucket.{BucketView, StandsFor, IsSettled, HasOneMore, StaysSettled, most_of}
+use Rattle.flow_book.specs.Limits.{HasBegunBy, most_in}
 use Rattle.flow_book.specs.Entry.{is_plain, KeepsSums}
 use Rattle.flow_book.specs.Queue.{IsAt}
-use Rattle.flow_book.specs.Tiers.{unlimited, limits_by, peak_in, reserved_in, rank_in, limits_in, tier_of, HasTier, IsSpent}
+use Rattle.flow_book.specs.Tiers.{unlimited, closed, queue_limits, limits_by, peak_in, reserved_in, rank_in, limits_in, tier_of, HasTier, IsSpent}
 use Rattle.flow_book.proofs.Buckets.{no-ceiling, same-fields}
 use Rattle.flow_book.proofs.Queues.{sustained-at, same-but, set-here, set-other}
 use Rattle.flow_book.proofs.Reservation.{both-hold}
@@ -41,6 +44,20 @@ no-rate c rate burst b charges stands settled is =
     let empty : b.full ≡ 0 = rw free at stands.full in
     same-fields b unlimited none empty (omega (arith, settled.level, empty)) (settled.first none)
 
+-- a flow that takes no requests has no rate
+silent-rates : (spec : FlowSpec) → takes_requests spec ≡ false
+    → (rate_of spec ≡ 0) × (peak_of spec ≡ 0) × (reserved_of spec ≡ 0)
+silent-rates (Unsolicited size interval jitter grants) silent = (refl, refl, refl)
+silent-rates (Polled interval jitter rate burst peak) silent = absurd (cc)
+silent-rates (BestEffort priority rate burst peak reserved reserved-burst) silent = absurd (cc)
+
+no-rate-of : (c : Config) (rate burst : ℕ) (b : BucketView) (charges : List Charge) → StandsFor c rate burst b charges
+    → IsSettled b charges → rate ≡ 0 → b ≡ unlimited
+no-rate-of c rate burst b charges stands settled none =
+    let slow = rw none at stands.per_slot in
+    let none : b.per_slot ≡ 0 = omega (arith, slow) in
+    no-rate c rate burst b charges stands settled (grind (arith, nat_tests))
+
 -- so where a flow is plain its buckets hold nothing back, and else they are those of its tier
 peak-by : (c : Config) (place : ℕ) (f : Flow) (b : Bool) → is_plain f ≡ b → KeepsSums c f
     → f.limits.peak ≡ option_map_or (λ (t : Tier). t.peak) (tier-if b place f) unlimited
@@ -63,11 +80,50 @@ same-limits x y sustained peak reserved =
     ∙ ap (λ b. record { sustained = y.sustained; peak = b; reserved = x.reserved }) peak
     ∙ ap (λ b. record { sustained = y.sustained; peak = y.peak; reserved = b }) reserved
 
--- so what its ceilings leave is what one that waits has of them
+-- what its ceilings leave to a flow that takes requests they leave to it in the queue
+pub queued-limits : (f : Flow) → takes_requests f.spec ≡ true → queue_limits f ≡ f.limits
+queued-limits f takes =
+    same-limits (queue_limits f) f.limits (ap (λ b. cond b f.limits.sustained closed) takes) refl refl
+
+-- and another has no byte there
+pub queued-nothing : (f : Flow) (slot limit : ℕ) → takes_requests f.spec ≡ false
+    → most_in (queue_limits f) slot limit ≡ 0
+queued-nothing f slot limit silent =
+    ap (λ b. most_of (cond b f.limits.sustained closed) slot (most_of f.limits.peak slot limit)) silent
+    ∙ nothing (most_of f.limits.peak slot limit)
+  where
+    nothing : (n : ℕ) → most_of closed slot n ≡ 0
+    nothing n = omega arith
+
+-- its buckets are counted from no later there
+pub queued-begun : (f : Flow) (slot : ℕ) → HasBegunBy slot f.limits → HasBegunBy slot (queue_limits f)
+queued-begun f slot begun = record {
+  sustained = by (takes_requests f.spec);
+  peak = begun.peak;
+  reserved = begun.reserved;
+}
+  where
+    by : (b : Bool) → (cond b f.limits.sustained closed).since ≤ slot
+    by true = begun.sustained
+    by false = omega arith
+
+-- so its buckets hold nothing back
+pub silent-limits : (c : Config) (f : Flow) → KeepsSums c f → takes_requests f.spec ≡ false
+    → f.limits ≡ record { sustained = unlimited; peak = unlimited; reserved = unlimited }
+silent-limits c f keeps silent =
+    let none = silent-rates f.spec silent in
+    same-limits f.limits (record { sustained = unlimited; peak = unlimited; reserved = unlimited })
+    (no-rate-of c (rate_of f.spec) (burst_of f.spec) f.limits.sustained f.grants.sustained keeps.limits.sustained
+    keeps.settled.sustained none.0)
+    (no-rate-of c (peak_of f.spec) PEAK_BURST f.limits.peak f.grants.peak keeps.limits.peak keeps.settled.peak none.1)
+    (no-rate-of c (reserved_of f.spec) (reserved_burst_of f.spec) f.limits.reserved f.grants.reserved
+    keeps.limits.reserved keeps.settled.reserved none.2)
+
+-- so what its ceilings leave to it is what one that waits has of them
 pub limits-at : (c : Config) (items : List Flow) (tiers : List Tier) (w : Waiting) (f : Flow) → KeepsSums c f
-    → IsAt items w → HasTier items tiers w → slice_get items w.place ≡ Some f → f.limits ≡ limits_in tiers w
+    → IsAt items w → HasTier items tiers w → slice_get items w.place ≡ Some f → queue_limits f ≡ limits_in tiers w
 limits-at c items tiers w f keeps is has at =
-    same-limits f.limits (limits_in tiers w) (sustained-at items w f is at)
+    same-limits (queue_limits f) (limits_in tiers w) (sustained-at items w f is at)
     (peak-by c w.place f (is_plain f) refl keeps
     ∙ sym (ap (λ o. option_map_or (λ (t : Tier). t.peak) o unlimited) (has f at)))
     (reserved-by c w.place f (is_plain f) refl keeps

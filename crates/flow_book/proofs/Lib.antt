@@ -6,6 +6,7 @@ pub mod SlotOrders
 pub mod SlotBoxes
 pub mod SlotSids
 pub mod Buckets
+pub mod Carried
 pub mod Changes
 pub mod Collected
 pub mod FirstGrant

@@ -10,8 +10,10 @@ use Rattle.std.proofs.lemmas.Option.{slice_get-map, slice_get_within, get_or_fro
 use Rattle.minislots.specs.declared.config.Config.{Config}
 use Rattle.minislots.specs.Config.{IsLawful}
 use Rattle.minislots.specs.Units.{bytes_in}
+use Rattle.sched_calls.specs.FlowSpec.{takes_requests}
 use Rattle.flow_book.specs.declared.flow.Flow.{Flow}
 use Rattle.flow_book.specs.declared.flow.Grant.{Grant}
+use Rattle.flow_book.specs.declared.limits.Limits.{Limits}
 use Rattle.flow_book.specs.declared.waiting.Waiting.{Waiting}
 use Rattle.flow_book.specs.declared.tiers.Tier.{Tier}
 use Rattle.flow_book.specs.declared.tiers.TheConstants.{NO_TIER}
@@ -26,7 +28,7 @@ use Rattle.flow_book.specs.Queue.{still_waits}
 use Rattle.flow_book.specs.declared.parts.Standing.{Standing}
 use Rattle.flow_book.specs.declared.parts.Standing.TheVariants.{Queued, Served}
 use Rattle.flow_book.specs.Parts.{one_at, HasStartedIn, IsNextIn, IsPutIn, IsPutBack, IsPut, IsGranted}
-use Rattle.flow_book.specs.Tiers.{HasTier, limits_in}
+use Rattle.flow_book.specs.Tiers.{HasTier, queue_limits, limits_in}
 use Rattle.flow_book.specs.Overlay.{IsSameFlow, HaveTiers, IsOverlay}
 use Rattle.flow_book.specs.Taking.{CanBeTaken}
 use Rattle.flow_book.proofs.Amounts.{amount-of_most, most-in-limits}
@@ -34,7 +36,7 @@ use Rattle.flow_book.proofs.Changes.{placed-changed}
 use Rattle.flow_book.proofs.InParts.{served-each, order-none}
 use Rattle.flow_book.proofs.NextServed.{IsFound, found-next, served-book}
 use Rattle.flow_book.proofs.Charges.{charges-more, limits-more, settled-more, begun-by}
-use Rattle.flow_book.proofs.ByTier.{own-tier, other-tier}
+use Rattle.flow_book.proofs.ByTier.{queued-limits, queued-begun, own-tier, other-tier}
 use Rattle.flow_book.proofs.Queues.{with-one, in-new, in-old, in-one, among-as, among-same, among-others, same-but}
 use Rattle.flow_book.proofs.Queues.{all-both, stands-at, put-among, pass-among, set-here}
 use Rattle.sched_calls.proofs.Insertion.{all-put_in}
@@ -172,9 +174,9 @@ module _ (c : Config) (items : List Flow) (tiers : List Tier) (queue served : Li
   -- so its buckets are counted from a minislot on that is no later
   pub next-begun : HasBegunBy start (limits_in tiers w)
   next-begun =
-      rw (sym next-stands.limits)
+      rw (sym next-stands.limits) (queued-begun next-stands.flow start
       (begun-by c (live next-stands.flow) next-stands.flow.limits start next-stands.keeps.limits next-stands.keeps.charges
-      next-stands.started)
+      next-stands.started))
 
   -- and its turn after a grant is no earlier
   pub next-later : (n : ℕ) → ((rank : ℕ) (last : Option ℕ) (sid : ℕ) → IsTurn rank last sid w.turn
@@ -239,6 +241,13 @@ module _ (c : Config) (items : List Flow) (tiers after : List Tier) (queue serve
       found-next c items start room w.place f has.book.sound.ascending
       (rw (slice_get-map live items w.place, stands.at) (rw (sym first-is) first.next)) read
 
+  takes : takes_requests f.spec ≡ true
+  takes = found.next.eligible.serves
+
+  -- so what its ceilings leave to it is what they leave to its flow
+  limits : f.limits ≡ limits_in tiers w
+  limits = sym (queued-limits f takes) ∙ stands.limits
+
   -- what it wants at least is what its flow does
   wanted : min w.wants c.quantum ≡ wanted_of c (live f)
   wanted = ap (λ n. min n c.quantum) (sym stands.wants)
@@ -248,7 +257,7 @@ module _ (c : Config) (items : List Flow) (tiers after : List Tier) (queue serve
       amount-of_most c lawful start room (live f) bytes found.next.eligible
       (most-in-limits c (live f) f.limits start room (min w.wants more) bytes lawful
       (omega (arith, cap, stands.wants)) stands.keeps.limits stands.keeps.charges stands.started
-      (granted.amount ∙ ap (λ l. most_with l start (min w.wants c.quantum) (min w.wants more)) (sym stands.limits)
+      (granted.amount ∙ ap (λ l. most_with l start (min w.wants c.quantum) (min w.wants more)) (sym limits)
       ∙ ap (λ n. most_with f.limits start n (min w.wants more)) wanted))
 
   -- it with the grant
@@ -268,7 +277,6 @@ module _ (c : Config) (items : List Flow) (tiers after : List Tier) (queue serve
 
   keeps : KeepsSums c granted-flow
   keeps = record {
-    asks = stands.keeps.asks;
     granted = omega (arith, stands.keeps.granted, bytes-added f.grants.items start bytes);
     turn = (
       stands.keeps.turn.0,
@@ -279,11 +287,11 @@ module _ (c : Config) (items : List Flow) (tiers after : List Tier) (queue serve
     last = last-behind f.grants.items (record { start = start; bytes = bytes }) stands.started;
     charges = charges-more c (live f) (record { start = start; bytes = bytes }) stands.keeps.charges;
     limits = limits-more c (live f) (limits_in tiers w) (limits_in after new) start bytes stands.keeps.charges
-        stands.started (subst (AreLimitsOf c (live f)) stands.limits stands.keeps.limits)
+        stands.started (subst (AreLimitsOf c (live f)) limits stands.keeps.limits)
         (subst (λ n. HaveOneMore (limits_in tiers w) (limits_in after new) start n bytes) wanted granted.limits);
     settled = settled-more c (live f) (limits_in tiers w) (limits_in after new) start bytes stands.keeps.charges
-        stands.started (subst (AreLimitsOf c (live f)) stands.limits stands.keeps.limits)
-        (subst (AreSettled (live f)) stands.limits stands.keeps.settled)
+        stands.started (subst (AreLimitsOf c (live f)) limits stands.keeps.limits)
+        (subst (AreSettled (live f)) limits stands.keeps.settled)
         (subst (λ n. StaySettled (limits_in tiers w) (limits_in after new) start n bytes) wanted granted.settled);
   }
 
@@ -326,6 +334,9 @@ module _ (c : Config) (items : List Flow) (tiers after : List Tier) (queue serve
       all-both (λ v. v.place ≢ w.place) (HasTier items tiers) (HasTier granted-items after) ws
       (other-tier c items tiers after w new f granted-flow stands.at both.1 granted.tier)
 
+  new-sustained : new.sustained ≡ (queue_limits granted-flow).sustained
+  new-sustained = sym (ap (λ (l : Limits). l.sustained) (queued-limits granted-flow takes))
+
   new-wants : new.wants ≡ outstanding (live granted-flow)
   new-wants = omega (arith, wants, stands.wants, bytes-added f.grants.items start bytes)
 
@@ -333,7 +344,7 @@ module _ (c : Config) (items : List Flow) (tiers after : List Tier) (queue serve
       → IsQueueAmong granted-items (λ other. other ≢ w.place) left → IsQueue granted-items (cond b (with-one new left) left)
   waiting-by true still left there =
       put-among c granted-items granted-book (λ other. other ≢ w.place) (λ other. Unit {0}) left w.place
-      granted-flow at-granted (λ k may. cases_eq k w.place) (λ k other. tt) there new same refl new-wants refl
+      granted-flow at-granted (λ k may. cases_eq k w.place) (λ k other. tt) there new same refl new-wants new-sustained
       new-tier (λ differ. differ refl) tt
   waiting-by false idle left there =
       pass-among c granted-items granted-book (λ other. other ≢ w.place) (λ other. Unit {0}) left w.place
@@ -356,7 +367,7 @@ module _ (c : Config) (items : List Flow) (tiers after : List Tier) (queue serve
           | inl equal ↦ inl (equal ∙ same)
           | inr old ↦ inr old
         ]) (λ k in-it. in-old k new put.left in-it) left-queue new same refl
-        (omega (arith, wants, stands.wants, bytes-added f.grants.items start bytes)) refl new-tier
+        (omega (arith, wants, stands.wants, bytes-added f.grants.items start bytes)) new-sustained new-tier
         (λ in-it. put.out (subst (λ n. IsIn n put.left) (sym same) in-it))
         (subst (λ n. IsIn n (with-one new put.left)) same (in-new new put.left))
 
@@ -416,8 +427,8 @@ module _ (c : Config) (items : List Flow) (tiers after : List Tier) (queue serve
         (λ v at' differ. ap (option_map entry_of) (same-but items w.place granted-flow v.place differ) ∙ at') put.each
         apart in
         let stands-new : IsAt granted-items new =
-        stands-at items new w.place granted-flow (slice_get_within items w.place f stands.at) refl new-wants refl new-tier
-        same in
+        stands-at items new w.place granted-flow (slice_get_within items w.place f stands.at) refl new-wants new-sustained
+        new-tier same in
         record {
           waiting = subst (IsQueue granted-items) (sym put.still) (waiting-queue (still_waits new) refl);
           each = subst (AllByRecursion (IsAt granted-items)) (sym put.is)

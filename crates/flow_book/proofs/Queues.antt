@@ -19,6 +19,7 @@ use Rattle.flow_book.specs.Choice.{last_start}
 use Rattle.flow_book.specs.Flows.{outstanding}
 use Rattle.flow_book.specs.declared.tiers.TheConstants.{NO_TIER}
 use Rattle.flow_book.specs.Bucket.{BucketView}
+use Rattle.flow_book.specs.Tiers.{queue_limits}
 use Rattle.flow_book.specs.Entry.{live, IsBook, KeepsSums, KnowsTurn}
 use Rattle.sched_calls.specs.Sids.{AscendBy, put_in}
 use Rattle.flow_book.specs.Queue.{entry_of, IsAt, IsIn, IsQueue, IsQueueAmong, AreSameBut}
@@ -153,9 +154,9 @@ module _ (items : List Flow) where
       → outstanding (live f) ≡ w.wants
   wants-at w f at found = ap (λ (e : ℕ × ℕ × BucketView × Bool). e.1) (entry-at w f at found)
 
-  -- and its maximum sustained rate leaves this
+  -- and its maximum sustained rate leaves this to it
   pub sustained-at : (w : Waiting) (f : Flow) → IsAt items w → slice_get items w.place ≡ Some f
-      → f.limits.sustained ≡ w.sustained
+      → (queue_limits f).sustained ≡ w.sustained
   sustained-at w f at found = ap (λ (e : ℕ × ℕ × BucketView × Bool). e.2) (entry-at w f at found)
 
   -- and it has a tier where it has a peak rate or a reservation
@@ -277,7 +278,7 @@ same-but items place e = set-other items place e
 
 -- a flow that is put at a place has there what is told of it
 pub stands-at : (items : List Flow) (w : Waiting) (place : ℕ) (e : Flow) → place < length items → w.turn ≡ e.turn
-    → w.wants ≡ outstanding (live e) → w.sustained ≡ e.limits.sustained
+    → w.wants ≡ outstanding (live e) → w.sustained ≡ (queue_limits e).sustained
     → (w.tier == NO_TIER) ≡ is_plain e → w.place ≡ place → IsAt (set items place e) w
 stands-at items w place e lt turn wants sustained tier at =
     let here = set-here items place e lt in
@@ -357,7 +358,7 @@ module _ (c : Config) (items : List Flow) (are : IsBook c items) where
 
     -- a queue with the flow at one more place
     pub put-among : (w : Waiting) → w.place ≡ place → w.turn ≡ f.turn → w.wants ≡ outstanding (live f)
-        → w.sustained ≡ f.limits.sustained → (w.tier == NO_TIER) ≡ is_plain f → (some place → ⊥)
+        → w.sustained ≡ (queue_limits f).sustained → (w.tier == NO_TIER) ≡ is_plain f → (some place → ⊥)
         → more place → IsQueueAmong items more (with-one w queue)
     put-among w at turn wants sustained tier out new =
         let stands : IsAt items w = rw (at, turn, wants, sustained, tier, here) refl in

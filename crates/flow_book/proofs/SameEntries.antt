@@ -1,9 +1,9 @@
 -- What is kept of a flow beside its grants is decided by what it shows.
 use Rattle.std.proofs.Common.{◌≡◌, refl, sym, ap, ◌∙◌, subst, ℕ, zero, suc, ◌<◌, List, [], ◌∷◌, map, filter}
-use Rattle.std.proofs.Common.{◌==◌, ◌&&◌, Bool, slice_get, Option, Some, None, option_map, arith}
+use Rattle.std.proofs.Common.{◌==◌, ◌&&◌, Bool, cond, slice_get, Option, Some, None, option_map, arith}
 use Rattle.std.specs.List.{AllByRecursion}
 use Rattle.minislots.specs.declared.config.Config.{Config}
-use Rattle.sched_calls.specs.FlowSpec.{rate_of, burst_of, peak_of, reserved_of, reserved_burst_of}
+use Rattle.sched_calls.specs.FlowSpec.{takes_requests, rate_of, burst_of, peak_of, reserved_of, reserved_burst_of}
 use Rattle.sched_calls.specs.declared.spec.TheConstants.{PEAK_BURST}
 use Rattle.flow_book.specs.declared.flow.Flow.{Flow}
 use Rattle.flow_book.specs.declared.waiting.Waiting.{Waiting}
@@ -12,6 +12,7 @@ use Rattle.flow_book.specs.Limits.{AreLimitsOf, AreSettled}
 use Rattle.flow_book.specs.declared.limits.Limits.{Limits}
 use Rattle.flow_book.specs.Bucket.{BucketView}
 use Rattle.flow_book.specs.Choice.{last_start}
+use Rattle.flow_book.specs.Tiers.{closed, queue_limits}
 use Rattle.flow_book.specs.Entry.{live, is_plain, top_rank, IsBook, IsTurn, KeepsSums}
 use Rattle.flow_book.specs.Queue.{entry_of, IsAt, IsIn, IsQueue, IsQueueAmong, IsQueueIn, still_waits}
 use Rattle.flow_book.proofs.Buckets.{same-bucket}
@@ -45,14 +46,15 @@ same-entry c f g keeps keeps' same =
     let limits : f.limits ≡ g.limits =
     limits-decided c (live f) f.limits g.limits keeps.limits (rw same keeps'.limits) keeps.settled (rw same keeps'.settled) in
     let wants : outstanding (live f) ≡ outstanding (live g) = ap outstanding same in
-    ap (λ n. (n, outstanding (live f), f.limits.sustained, is_plain f)) turn
-    ∙ ap (λ n. (g.turn, n, f.limits.sustained, is_plain f)) wants
+    ap (λ n. (n, outstanding (live f), (queue_limits f).sustained, is_plain f)) turn
+    ∙ ap (λ n. (g.turn, n, (queue_limits f).sustained, is_plain f)) wants
     ∙ ap (λ (l : Limits). (
       g.turn,
       outstanding (live g),
-      l.sustained,
+      cond (takes_requests f.spec) l.sustained closed,
       l.peak.per_slot == 0 && l.reserved.per_slot == 0,
     )) limits
+    ∙ ap (λ s. (g.turn, outstanding (live g), cond (takes_requests s) g.limits.sustained closed, is_plain g)) spec
 
 same-head : {X : Type 0} (x y : X) (xs ys : List X) → x ∷ xs ≡ y ∷ ys → x ≡ y
 same-head x y xs ys same = cc

@@ -25,7 +25,7 @@ use Rattle.flow_book.specs.Limits.{HasBegunBy, most_in, most_with}
 use Rattle.sched_calls.specs.Sids.{AscendBy}
 use Rattle.flow_book.specs.Queue.{IsAt, IsIn, IsPassed, IsNoSooner, IsAble, HasStartedPart, still_waits}
 use Rattle.flow_book.specs.Parts.{HasStartedIn}
-use Rattle.flow_book.specs.Tiers.{HasTier, limits_in, reserved_in, rank_in, turn_at}
+use Rattle.flow_book.specs.Tiers.{HasTier, queue_limits, limits_in, reserved_in, rank_in, turn_at}
 use Rattle.flow_book.specs.Reserved.{wanted_of, is_under, rank_at}
 use Rattle.flow_book.specs.Entry.{top_rank, turn_in}
 use Rattle.flow_book.specs.Bucket.{BucketView, most_of, reserves}
@@ -37,7 +37,7 @@ use Rattle.flow_book.proofs.Reservation.{under-reserves}
 use Rattle.flow_book.proofs.Turns.{turn-sid, turn-in, turn-in-later}
 use Rattle.flow_book.specs.declared.tiers.Tier.{Tier}
 use Rattle.flow_book.specs.declared.tiers.TheConstants.{NO_TIER}
-use Rattle.flow_book.proofs.ByTier.{limits-at, rank-at}
+use Rattle.flow_book.proofs.ByTier.{limits-at, rank-at, queued-limits, queued-nothing, queued-begun}
 use Rattle.flow_book.proofs.Amounts.{eligible-is, limits-within, wanted-whole}
 use Rattle.flow_book.proofs.Turns.{less-first}
 use Rattle.flow_book.proofs.Steps.{all-item}
@@ -130,7 +130,7 @@ rank-small c start f small = small-by (is_under c start (live f))
 
 -- an entry's turn at a minislot is that of its flow's rank there, and no earlier than its own
 module _ (c : Config) (start : ℕ) (f : Flow) (tiers : List Tier) (w : Waiting) (keeps : KeepsSums c f)
-    (started : HaveStartedBy start f.grants.items) (limits : f.limits ≡ limits_in tiers w)
+    (started : HaveStartedBy start f.grants.items) (limits : queue_limits f ≡ limits_in tiers w)
     (wants : outstanding (live f) ≡ w.wants)
     (rank : (f.limits.reserved.per_slot == 0) ≡ false → rank_in tiers w ≡ rank_of f.spec)
     (knows : IsTurn (top_rank f.spec) (last_start f.grants.items) f.sid w.turn) where
@@ -197,9 +197,9 @@ pub record StandsIn (c : Config) (items : List Flow) (tiers : List Tier) (start 
   pub started : HaveStartedBy start flow.grants.items
   pub turn : flow.turn ≡ w.turn
   pub wants : outstanding (live flow) ≡ w.wants
-  pub sustained : flow.limits.sustained ≡ w.sustained
+  pub sustained : (queue_limits flow).sustained ≡ w.sustained
   pub tier : is_plain flow ≡ (w.tier == NO_TIER)
-  pub limits : flow.limits ≡ limits_in tiers w
+  pub limits : queue_limits flow ≡ limits_in tiers w
   pub now : IsTurn (rank_at c start (live flow)) (last_start flow.grants.items) flow.sid (turn_at c tiers start w)
   pub later : w.turn ≤ turn_at c tiers start w
 
@@ -258,8 +258,8 @@ module _ (c : Config) (items : List Flow) (tiers : List Tier) (queue : List Wait
   begun-in i w has lt here still =
       let waits : 0 < w.wants = grind (arith, nat_tests) in
       let is = stands-in c items tiers queue start i w has lt here waits in
-      rw (sym is.limits)
-      (begun-by c (live is.flow) is.flow.limits start is.keeps.limits is.keeps.charges is.started)
+      rw (sym is.limits) (queued-begun is.flow start
+      (begun-by c (live is.flow) is.flow.limits start is.keeps.limits is.keeps.charges is.started))
 
   module _ (room i : ℕ) (w : Waiting) (may : Bool) (has : HasStartedPart c items tiers queue start)
       (lt : i < length queue) (here : w ≡ get_or queue i w) where
@@ -311,14 +311,30 @@ pub entry-may : (c : Config) (start room : ℕ) (items : List Flow) (tiers : Lis
     → may ≡ (most_in (limits_in tiers w) start wanted == wanted)
     → IsTrue may ↔ IsEligible c start room (live is.flow)
 entry-may c start room items tiers w wanted may lawful is limits some fits tested =
-    let f = is.flow in
-    let takes : takes_requests f.spec ≡ true = is.keeps.asks (omega (arith, is.wants, limits, some)) in
-    let most : most_in f.limits start wanted ≡ most_in (limits_in tiers w) start wanted =
-    ap (λ l. most_in l start wanted) is.limits in
-    may-is c start room f w.wants wanted may lawful is.keeps is.started is.wants limits fits (
-      (λ t. (takes, some, most ∙ equal (most_in (limits_in tiers w) start wanted) wanted (sym tested ∙ t))),
-      (λ p. tested ∙ eq-eqb (most_in (limits_in tiers w) start wanted) wanted (sym most ∙ p.2)),
-    )
+    by (takes_requests is.flow.spec) refl
+  where
+    f : Flow
+    f = is.flow
+
+    queued : most_in (queue_limits f) start wanted ≡ most_in (limits_in tiers w) start wanted
+    queued = ap (λ l. most_in l start wanted) is.limits
+
+    -- one that takes no requests has no byte in the queue
+    by : (b : Bool) → takes_requests f.spec ≡ b → IsTrue may ↔ IsEligible c start room (live f)
+    by true takes =
+        let most : most_in f.limits start wanted ≡ most_in (limits_in tiers w) start wanted =
+        ap (λ l. most_in l start wanted) (sym (queued-limits f takes)) ∙ queued in
+        may-is c start room f w.wants wanted may lawful is.keeps is.started is.wants limits fits (
+          (λ t. (takes, some, most ∙ equal (most_in (limits_in tiers w) start wanted) wanted (sym tested ∙ t))),
+          (λ p. tested ∙ eq-eqb (most_in (limits_in tiers w) start wanted) wanted (sym most ∙ p.2)),
+        )
+    by false silent =
+        let none = sym queued ∙ queued-nothing f start wanted silent in (
+          (λ t.
+              let all = equal (most_in (limits_in tiers w) start wanted) wanted (sym tested ∙ t) in
+              absurd (omega (arith, none, all, some))),
+          (λ able. let takes = able.serves in absurd (cc)),
+        )
 
 -- what holds of those of a list that still wait holds of one that does
 pub kept-of : (P : Waiting → Type 0) (queue : List Waiting) (i : ℕ) (w : Waiting) → slice_get queue i ≡ Some w

@@ -1,5 +1,5 @@
 -- What flows keep beside their grants stays theirs.
-use Rattle.std.proofs.Common.{◌≡◌, true, refl, sym, ap, ◌∙◌, subst, ℕ, zero, suc, ◌+◌, ◌<◌, ◌==◌, List, [], ◌∷◌, ◌++◌}
+use Rattle.std.proofs.Common.{◌≡◌, refl, sym, ap, ◌∙◌, subst, ℕ, zero, suc, ◌+◌, ◌<◌, ◌==◌, List, [], ◌∷◌, ◌++◌}
 use Rattle.std.proofs.Common.{◌≤◌, Some, length, get_or, set, arith}
 use Rattle.std.specs.List.{AllByRecursion, insert}
 use Rattle.std.specs.Option.{IfSome}
@@ -7,7 +7,6 @@ use Rattle.std.proofs.lemmas.List.Elements.{All-from_recursion}
 use Rattle.std.proofs.lemmas.List.Sums.{sum_by-append}
 use Rattle.minislots.specs.declared.config.Config.{Config}
 use Rattle.sched_calls.specs.declared.spec.FlowSpec.{FlowSpec}
-use Rattle.sched_calls.specs.FlowSpec.{takes_requests}
 use Rattle.flow_book.specs.declared.flow.Flow.{Flow}
 use Rattle.flow_book.specs.declared.flow.Grant.{Grant}
 use Rattle.flow_book.specs.Flows.{LiveFlow, HaveStartedBy, bytes_of, granted}
@@ -65,9 +64,7 @@ copy-sums c f g is keeps =
     let grants : g.grants.items ≡ f.grants.items = ap (λ (h : LiveFlow). h.grants) is.same in
     let spec : g.spec ≡ f.spec = ap (λ (h : LiveFlow). h.spec) is.same in
     let sid : g.sid ≡ f.sid = ap (λ (h : LiveFlow). h.sid) is.same in
-    let asked : g.asked ≡ f.asked = ap (λ (h : LiveFlow). h.asked) is.same in
     record {
-      asks = rw (asked, spec) keeps.asks;
       granted = is.granted ∙ keeps.granted ∙ ap bytes_of (sym grants);
       turn = rw (spec, grants, sid, is.turn) keeps.turn;
       last = rw grants keeps.last;
@@ -93,13 +90,12 @@ placed-book c sid items i e f are is same sound keeps = record {
 
 -- and so where that asked for more
 pub asked-book : (c : Config) (sid bytes heard : ℕ) (items : List Flow) (i : ℕ) (f : Flow) → IsBook c items
-    → StandsAt sid items i f → takes_requests f.spec ≡ true → IsBook c (set items i (asked_more bytes heard f))
-asked-book c sid bytes heard items i f are is takes =
+    → StandsAt sid items i f → IsBook c (set items i (asked_more bytes heard f))
+asked-book c sid bytes heard items i f are is =
     let sound = placed-is_sound c sid items i f are.sound is in
     let keeps = placed-sums c sid items i f are is in
     placed-book c sid items i (asked_more bytes heard f) f are is refl (asked-sound c bytes heard (live f) sound)
     (record {
-      asks = λ some. takes;
       granted = keeps.granted;
       turn = keeps.turn;
       last = keeps.last;
@@ -122,13 +118,12 @@ asked-book c sid bytes heard items i f are is takes =
 
 -- and so where that asked for other bytes in the place of those outstanding
 pub replaced-book : (c : Config) (sid bytes heard : ℕ) (items : List Flow) (i : ℕ) (f : Flow) → IsBook c items
-    → StandsAt sid items i f → takes_requests f.spec ≡ true → IsBook c (set items i (asked_instead bytes heard f))
-replaced-book c sid bytes heard items i f are is takes =
+    → StandsAt sid items i f → IsBook c (set items i (asked_instead bytes heard f))
+replaced-book c sid bytes heard items i f are is =
     let sound = placed-is_sound c sid items i f are.sound is in
     let keeps = placed-sums c sid items i f are is in
     placed-book c sid items i (asked_instead bytes heard f) f are is refl (replaced-sound c bytes heard (live f) sound)
     (record {
-      asks = λ some. takes;
       granted = keeps.granted;
       turn = keeps.turn;
       last = keeps.last;

@@ -1,13 +1,15 @@
 -- The flows of a book that takes in the data grants of a MAP, one by one.
 use Rattle.std.proofs.Common.{◌≡◌, refl, sym, ap, ◌∙◌, subst, ℕ, zero, suc, ◌+◌, ◌-◌, ◌<◌, ◌≤◌, ◌⊎◌, inl, inr}
 use Rattle.std.proofs.Common.{List, [], ◌∷◌, ◌++◌, map, length, take, get_or, set, slice_get}
-use Rattle.std.proofs.Common.{Some, option_map, arith}
+use Rattle.std.proofs.Common.{Some, option_map, Bool, true, false, cond, arith}
+use Rattle.std.specs.Prelude.{if◌then◌else◌}
 use Rattle.std.specs.List.{AllByRecursion, AllZip}
 use Rattle.std.specs.Option.{option_map_or}
 use Rattle.std.proofs.lemmas.List.{length-map, length-set, get_or-set_same, take_more}
 use Rattle.std.proofs.lemmas.List.Elements.{All-from_recursion, length_all_zip}
 use Rattle.std.proofs.lemmas.Option.{slice_get_within, slice_get-get_or, slice_get_read, slice_get-map}
 use Rattle.minislots.specs.declared.config.Config.{Config}
+use Rattle.sched_calls.specs.FlowSpec.{takes_requests}
 use Rattle.flow_book.specs.declared.flow.Flow.{Flow}
 use Rattle.flow_book.specs.declared.granted.GrantList.{GrantList}
 use Rattle.flow_book.specs.declared.waiting.Waiting.{Waiting}
@@ -22,7 +24,7 @@ use Rattle.flow_book.specs.declared.tiers.Tier.{Tier}
 use Rattle.flow_book.specs.Taking.{CanBeTaken, IsTaken}
 use Rattle.flow_book.proofs.Once.{fresh-once}
 use Rattle.flow_book.proofs.Queues.{at-within, flow-at, turn-at, wants-at, same-turn, same-but}
-use Rattle.flow_book.proofs.ByTier.{limits-at}
+use Rattle.flow_book.proofs.ByTier.{limits-at, queued-limits, silent-limits}
 use Rattle.flow_book.proofs.StillWaiting.{in-or-out, all-at}
 use Rattle.flow_book.proofs.Sums.{copy-sums}
 
@@ -183,7 +185,7 @@ module _ (c : Config) (old items : List Flow) (tiers : List Tier) (queue : List 
       pub copied : (grants : GrantList) → AreGrantsAt w.place (map live items) grants → IsCopy is-here.0 (record f {
         turn = w.turn;
         granted = f.asked - w.wants;
-        limits = limits_in tiers w;
+        limits = if takes_requests f.spec then limits_in tiers w else f.limits;
         grants = grants;
       })
       copied grants are =
@@ -203,8 +205,20 @@ module _ (c : Config) (old items : List Flow) (tiers : List Tier) (queue : List 
               keeps.granted,
             );
             turn = sym (turn-at items w g here.is here.at);
-            limits = sym (limits-at c items tiers w g keeps here.is has-tier here.at);
+            limits = limits-by g here keeps (takes_requests f.spec) refl;
           }
+        where
+          limits-by : (g : Flow) → IsHere old items w f g → KeepsSums c g → (b : Bool) → takes_requests f.spec ≡ b
+              → cond b (limits_in tiers w) f.limits ≡ g.limits
+          limits-by g here keeps true takes =
+              let spec : f.spec ≡ g.spec = ap (λ (h : LiveFlow). h.spec) here.same in
+              sym (limits-at c items tiers w g keeps here.is has-tier here.at)
+              ∙ queued-limits g (ap takes_requests (sym spec) ∙ takes)
+          limits-by g here keeps false silent =
+              let spec : f.spec ≡ g.spec = ap (λ (h : LiveFlow). h.spec) here.same in
+              let before = all-at (KeepsSums c) old w.place f can.before.sums here.found in
+              silent-limits c f before silent
+              ∙ sym (silent-limits c g keeps (ap takes_requests (sym spec) ∙ silent))
 
       -- so one place more is done where it is put there
       pub part-more : (e : Flow) → IsCopy is-here.0 e → IsPart old items (take (i + 1) queue) (set new w.place e)

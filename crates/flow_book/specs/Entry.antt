@@ -1,5 +1,5 @@
 -- What the fields of a flow stand for, and what is true of every book.
-use Rattle.std.specs.Prelude.{◌≡◌, true, ℕ, ◌+◌, ◌-◌, ◌*◌, ◌%◌, Bool, ◌==◌, ◌&&◌, ◌^◌, ◌<◌, ◌≤◌, nat_lt, List, map, Option, None, Some, min, max}
+use Rattle.std.specs.Prelude.{◌≡◌, ℕ, ◌+◌, ◌-◌, ◌*◌, ◌%◌, Bool, ◌==◌, ◌&&◌, ◌^◌, ◌<◌, ◌≤◌, nat_lt, List, map, Option, None, Some, min, max}
 use Rattle.std.specs.Prelude.{if◌then◌else◌}
 use Rattle.std.specs.List.{AllByRecursion}
 use Rattle.minislots.specs.declared.config.Config.{Config}
@@ -7,7 +7,7 @@ use Rattle.minislots.specs.Units.{bytes_in}
 use Rattle.sched_calls.specs.declared.spec.FlowSpec.{FlowSpec}
 use Rattle.flow_book.specs.declared.flow.Flow.{Flow}
 use Rattle.flow_book.specs.declared.flow.Room as the_room
-use Rattle.sched_calls.specs.FlowSpec.{rank_of, rate_of, burst_of, peak_of, reserved_of, reserved_burst_of, takes_requests}
+use Rattle.sched_calls.specs.FlowSpec.{rank_of, rate_of, burst_of, peak_of, reserved_of, reserved_burst_of}
 use Rattle.sched_calls.specs.declared.spec.TheConstants.{PEAK_BURST}
 use Rattle.flow_book.specs.Batches.{with_request}
 use Rattle.flow_book.specs.Flows.{LiveFlow, bytes_of, granted, HaveStartedBy}
@@ -73,10 +73,9 @@ abbrev pub turn_in : ℕ → ℕ → ℕ
 turn_in rank turn = (255 - rank) * 2 ^ 81 + turn % 2 ^ 81
 
 -- what a flow keeps beside its grants is theirs: their bytes, its turn after the last one, and the bucket of each of
--- its ceilings and of its reservation that stands for what is charged to that and is settled by it; none of them starts
--- behind the last one; and only a flow that takes requests has asked for bytes
+-- its ceilings and of its reservation that stands for what is charged to that and is settled by it; and none of them
+-- starts behind the last one
 pub record KeepsSums (c : Config) (f : Flow) : Type 0 where
-  pub asks : 0 < f.asked → takes_requests f.spec ≡ true
   pub granted : f.granted ≡ bytes_of f.grants.items
   pub turn : KnowsTurn f
   pub last : HaveStartedBy (last_slot f.grants.items) f.grants.items

@@ -16,6 +16,7 @@ pub mod Limits
 pub mod Choice
 pub mod Book
 pub mod FlowState
+pub mod Carried
 pub mod Entry
 pub mod Overlay
 pub mod Parts

@@ -11,18 +11,18 @@ use Rattle.flow_book.specs.declared.tiers.Tier.{Tier}
 use Rattle.flow_book.specs.declared.tiers.TheConstants.{NO_TIER}
 use Rattle.flow_book.specs.Bucket.{BucketView}
 use Rattle.flow_book.specs.Choice.{HasStartedBy, IsEligible}
-use Rattle.flow_book.specs.Tiers.{HasTier, turn_at}
+use Rattle.flow_book.specs.Tiers.{HasTier, turn_at, queue_limits}
 use Rattle.flow_book.specs.Entry.{live, is_plain, IsBook}
 use Rattle.flow_book.specs.Numbers.{LineView, IsLineOf}
 use Rattle.sched_calls.specs.Sids.{AscendBy, put_in}
 
--- a flow's turn, the bytes that it waits for, what its maximum sustained rate leaves, and whether it has neither a peak
--- rate nor a reservation
+-- a flow's turn, the bytes that it waits for, what its maximum sustained rate leaves to it in the queue, and whether it
+-- has neither a peak rate nor a reservation
 abbrev pub entry_of : Flow → ℕ × ℕ × BucketView × Bool
-entry_of f = (f.turn, outstanding (live f), f.limits.sustained, is_plain f)
+entry_of f = (f.turn, outstanding (live f), (queue_limits f).sustained, is_plain f)
 
 -- there is a flow at its place, and these are its turn, the bytes that it waits for, what its maximum sustained rate
--- leaves, and whether it has neither a peak rate nor a reservation
+-- leaves to it in the queue, and whether it has neither a peak rate nor a reservation
 abbrev pub IsAt : List Flow → Waiting → Type 0
 IsAt items w =
     option_map entry_of (slice_get items w.place) ≡ Some (w.turn, w.wants, w.sustained, w.tier == NO_TIER)

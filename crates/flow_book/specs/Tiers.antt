@@ -9,12 +9,21 @@ use Rattle.flow_book.specs.declared.tiers.Tier.{Tier}
 use Rattle.flow_book.specs.declared.tiers.TheConstants.{NO_TIER}
 use Rattle.flow_book.specs.Bucket.{BucketView, reserves}
 use Rattle.minislots.specs.declared.config.Config.{Config}
-use Rattle.sched_calls.specs.FlowSpec.{rank_of}
+use Rattle.sched_calls.specs.FlowSpec.{rank_of, takes_requests}
 use Rattle.flow_book.specs.Entry.{turn_in, is_plain}
 
 -- the bucket of a rate of 0
 abbrev pub unlimited : BucketView
 unlimited = record { per_slot = 0; full = 0; level = 0; since = 0 }
+
+-- a bucket that never has anything
+abbrev pub closed : BucketView
+closed = record { per_slot = 1; full = 0; level = 0; since = 0 }
+
+-- what its ceilings leave to a flow in the queue, and its reservation: nothing where it takes no requests, so that it is
+-- never served
+abbrev pub queue_limits : Flow → Limits
+queue_limits f = record f.limits { sustained = if takes_requests f.spec then f.limits.sustained else closed }
 
 -- what its ceilings leave to one that has this tier, and its reservation
 abbrev pub limits_by : Tier → BucketView → Limits

@@ -3,6 +3,7 @@
 ghost use Rattle.std.specs.Prelude.{◌≡◌, ◌<◌, ◌≤◌, ◌+◌, ◌^◌};
 ghost use Rattle.flow_book.specs.Batches.{no_batches, with_request, since_of};
 ghost use Rattle.flow_book.specs.FlowState.{batch_state};
+ghost use Rattle.flow_book.specs.Carried.{carried_batches};
 
 use sched_calls::BatchState;
 
@@ -28,6 +29,16 @@ impl Batches {
             first: 0,
             second: None,
         }
+    }
+
+    // Those that a state tells.
+    pub(crate) fn carried(state: Option<BatchState>) -> Batches
+        ensures { result ≡ carried_batches state }
+    {
+        let Some(BatchState { end, first, second }) = state else {
+            return Batches::none();
+        };
+        Batches { end, first, second }
     }
 
     // Those with a request of so many bytes more, which was heard at a minislot, of a flow that had asked and was

@@ -1,10 +1,11 @@
 //! The live flows of a channel, in order of SID.
 
 ghost use Rattle.std.specs.Prelude.{◌≡◌, ◌≢◌, ℕ, ◌+◌, ◌<◌, ◌≤◌, ◌^◌, ◌==◌, [], length, IfOk, OnOk, OnErr, IfSome};
-ghost use Rattle.std.specs.Prelude.{IsSomeAnd, map, filter, option_map, slice_get, nat_lt, position, true, Some};
+ghost use Rattle.std.specs.Prelude.{if◌then◌else◌, IsSomeAnd, map, filter, option_map, slice_get, nat_lt, position, true, Some};
 ghost use Rattle.std.specs.List.{AllByRecursion, position_or_len};
 ghost use Rattle.minislots.specs.Units.{slots_for};
 ghost use Rattle.sched_calls.specs.FlowSpec.{takes_requests};
+ghost use Rattle.sched_calls.specs.Sids.{AscendBy};
 ghost use Rattle.flow_book.specs.Flows.{flow_of, granted, outstanding};
 ghost use Rattle.flow_book.specs.Reserved.{with_grant};
 ghost use Rattle.flow_book.specs.Standing.{waits_so};
@@ -12,6 +13,7 @@ ghost use Rattle.flow_book.specs.Choice.{MayGrant, IsMost, IsAmount, IsNextSid};
 ghost use Rattle.flow_book.specs.Choice.{HasStartedBy};
 ghost use Rattle.flow_book.specs.Entry.{live, IsSoundFlow, IsBook, KeepsSums};
 ghost use Rattle.flow_book.specs.Queue.{IsQueue};
+ghost use Rattle.flow_book.specs.Carried.{carried_flow, MayBeCarried};
 ghost use Rattle.flow_book.specs.Shown.{is_shown, ack_of};
 ghost use Rattle.flow_book.specs.Book.{IsLive, Ascend, KeepsRoom, room_of, new_flow, with_flow, without, changed};
 ghost use Rattle.flow_book.specs.Book.{with_asked, with_replaced, with_spec};
@@ -20,6 +22,7 @@ use crate::channel::Channel;
 use crate::flow::{Flow, first_eligible, reserve_each};
 use crate::flows::Flows;
 use crate::line::Line;
+use crate::opening::carried_flows;
 use crate::overlay::Overlay;
 use crate::queue::{copy_of, follow, leave, make_room, make_way, queue_of, take_or_make};
 use crate::queue_list::Queue;
@@ -27,7 +30,7 @@ use crate::shown::Shown;
 use crate::standing::{Standing, who_waits};
 use crate::waiting::Waiting;
 use minislots::Checked;
-use sched_calls::FlowSpec;
+use sched_calls::{FlowSpec, FlowState};
 use std::alloc::{AllocError, Global};
 use std::marker::Model;
 
@@ -85,6 +88,25 @@ impl Book {
             flows: Flows::new(alloc),
             queue: Queue::new(alloc),
             is_queued: true,
+            line: Line::none(),
+        })
+    }
+
+    /// A book for this channel with the flows that a state tells, each with one grant in the place of all that it was
+    /// granted.
+    pub fn open_at(alloc: Global, config: Checked, flows: &[FlowState]) -> Result<Book, AllocError>
+        requires ascending { AscendBy (λ f. f.sid) flows.now }
+        requires each { AllByRecursion MayBeCarried flows.now }
+        ensures config { IfOk result (λ book. book.config ≡ config) }
+        ensures flows { IfOk result (λ book. book.flows ≡ map carried_flow flows.now) }
+    {
+        let channel = Channel::of(alloc, config)?;
+        let flows = carried_flows(alloc, channel.config(), flows)?;
+        Ok(Book {
+            channel,
+            flows,
+            queue: Queue::new(alloc),
+            is_queued: false,
             line: Line::none(),
         })
     }
@@ -149,12 +171,15 @@ impl Book {
     /// The bytes that a live flow asked, and those of them that it was not granted: none where it takes no requests.
     pub fn sums(&self, sid: u16) -> (u64, u64)
         requires { IsLive sid self.now.flows }
-        ensures value { IfSome (flow_of sid self.now.flows)
-            (λ f. (result.0 ≡ f.asked) × (result.1 ≡ outstanding f)) }
-        ensures asks { IfSome (flow_of sid self.now.flows)
-            (λ f. 0 < f.asked → takes_requests f.spec ≡ true) }
+        ensures asked { IfSome (flow_of sid self.now.flows)
+            (λ f. result.0 ≡ (if takes_requests f.spec then f.asked else 0)) }
+        ensures left { IfSome (flow_of sid self.now.flows)
+            (λ f. result.1 ≡ (if takes_requests f.spec then outstanding f else 0)) }
     {
         let flow = self.at(sid);
+        if !flow.spec.takes_requests() {
+            return (0, 0);
+        }
         (flow.asked, flow.outstanding())
     }
 

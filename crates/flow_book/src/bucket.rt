@@ -6,7 +6,8 @@ ghost use Rattle.flow_book.specs.Flows.{Charge, AreMadeBy};
 ghost use Rattle.flow_book.specs.Bucket.{level_of, most_of, StandsFor, AnswersLevel, AnswersCeiling, HasOneMore};
 ghost use Rattle.flow_book.specs.Bucket.{IsSettled, StaysSettled, reserves};
 ghost use Rattle.flow_book.specs.FlowState.{level_after};
-ghost use Rattle.flow_book.specs.Tiers.{unlimited};
+ghost use Rattle.flow_book.specs.Carried.{carried_charges, MayHaveLevel};
+ghost use Rattle.flow_book.specs.Tiers.{unlimited, closed};
 
 use minislots::Checked;
 use std::marker::Model;
@@ -63,12 +64,44 @@ impl Bucket {
         }
     }
 
+    // The bucket of a rate and a burst that has this level where its last grant starts: a full one where there is none.
+    pub(crate) fn carried(
+        config: &Checked,
+        rate: u32,
+        burst: u32,
+        last: Option<u64>,
+        level: Option<u64>,
+    ) -> Bucket
+        requires { MayHaveLevel rate burst level }
+        ensures stands { StandsFor config.now rate burst result (carried_charges last burst level) }
+        ensures settled { IsSettled result (carried_charges last burst level) }
+    {
+        let mut bucket = Bucket::open(config, rate, burst);
+        if let (Some(start), Some(level)) = (last, level) {
+            bucket.level = level;
+            bucket.since = start;
+        }
+        bucket
+    }
+
     // A full bucket of a rate of 0, which holds nothing back.
     pub(crate) fn unlimited() -> Bucket
         ensures { result ≡ unlimited }
     {
         Bucket {
             per_slot: 0,
+            full: 0,
+            level: 0,
+            since: 0,
+        }
+    }
+
+    // A bucket that never has anything.
+    pub(crate) fn closed() -> Bucket
+        ensures { result ≡ closed }
+    {
+        Bucket {
+            per_slot: 1,
             full: 0,
             level: 0,
             since: 0,

@@ -153,8 +153,7 @@ impl Flow {
     pub(crate) fn change(&mut self, config: &Checked, spec: FlowSpec)
         ensures live { live self.new ≡ with_spec spec (live self.old) }
         ensures room { room_in self.new ≡ room_in self.old }
-        ensures sums { takes_requests spec ≡ takes_requests self.old.spec
-            → KeepsSums config.now self.old → KeepsSums config.now self.new }
+        ensures sums { KeepsSums config.now self.old → KeepsSums config.now self.new }
     {
         self.turn = turn_in(self.turn, top_rank(&spec));
         self.grants = GrantList::under(&self.grants, &self.spec, &spec);
@@ -343,19 +342,22 @@ impl Flow {
         self.limits.has(start, wanted)
     }
 
-    // Gives the flow the data grants that a MAP adds, and what the queue has of it with them.
+    // Gives the flow the data grants that a MAP adds, and what the queue has of it with them. One that takes no requests
+    // keeps its buckets.
     pub(crate) fn take_over(&mut self, waiting: &Waiting, tiers: &[Tier], grants: GrantList)
         requires { waiting.now.wants ≤ self.old.asked }
         ensures { self.new ≡ record self.old {
           turn = waiting.now.turn;
           granted = self.old.asked - waiting.now.wants;
-          limits = limits_in tiers.now waiting.now;
+          limits = if takes_requests self.old.spec then limits_in tiers.now waiting.now else self.old.limits;
           grants = grants;
         } }
     {
         self.turn = waiting.turn;
         self.granted = self.asked - waiting.wants;
-        self.limits = waiting.limits(tiers);
+        if self.spec.takes_requests() {
+            self.limits = waiting.limits(tiers);
+        }
         self.grants = grants;
     }
 
@@ -386,7 +388,6 @@ impl Flow {
             ≡ with_grant c (record { start = start; bytes = bytes }) (live self.old) }
         ensures room { (room_in self.new).grants + 1 ≡ (room_in self.old).grants }
         ensures sums { (c : Config) → is_reserved ≡ is_under c start (live self.old)
-            → (0 < self.old.asked → takes_requests self.old.spec ≡ true)
             → self.old.granted ≡ granted (live self.old) → KnowsTurn self.old
             → HasStartedBy start (live self.old) → ChargesAtGrants (live self.old)
             → AreLimitsOf c (with_grant c (record { start = start; bytes = bytes }) (live self.old)) self.old.limits
@@ -449,14 +450,14 @@ fn both(a: bool, b: bool) -> bool
 }
 
 // The turn of a flow of this rank that has no data grant yet.
-fn turn_of(rank: u8, sid: u16) -> u128
+pub(crate) fn turn_of(rank: u8, sid: u16) -> u128
     ensures { IsTurn rank None sid result }
 {
     u128::from(u8::MAX - rank) * TURNS * SIDS + u128::from(sid)
 }
 
 // The highest rank that a flow with these parameters may have.
-fn top_rank(spec: &FlowSpec) -> u8
+pub(crate) fn top_rank(spec: &FlowSpec) -> u8
     ensures { result ≡ top_rank spec.now }
 {
     if spec.reserved() == 0 {

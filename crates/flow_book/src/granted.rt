@@ -4,11 +4,14 @@ ghost use Rattle.std.specs.Prelude.{◌≡◌, ℕ, ◌+◌, ◌-◌, List, [], 
 ghost use Rattle.std.specs.Borrow.{ftrue};
 ghost use Rattle.flow_book.specs.Granted.{grants_code, charges_code};
 ghost use Rattle.flow_book.specs.Flows.{Charge, charge_of};
+ghost use Rattle.sched_calls.specs.FlowSpec.{burst_of, reserved_burst_of};
+ghost use Rattle.sched_calls.specs.declared.spec.TheConstants.{PEAK_BURST};
+ghost use Rattle.flow_book.specs.Carried.{carried_grants, carried_charges};
 ghost use Rattle.flow_book.specs.Book.{has_ceiling_of, has_peak_of, has_reserve_of};
 ghost use Rattle.flow_book.specs.declared.flow.Grant.{Grant as DataGrant};
 
 use crate::flow::Grant;
-use sched_calls::FlowSpec;
+use sched_calls::{FlowSpec, FlowState};
 use std::marker::Model;
 
 // The data grants of a flow, in order, and the room for more of them; and what is charged to its ceiling, to its peak
@@ -34,6 +37,17 @@ impl GrantList {
     // No grants, and no room.
     pub(crate) fn none() -> GrantList
         ensures { (result.items ≡ []) × (result.sustained ≡ []) × (result.peak ≡ []) × (result.reserved ≡ []) }
+    {
+        GrantList {}
+    }
+
+    // The carried grant of a flow that a state tells, and what it charges, with no room.
+    pub(crate) fn carried(_state: &FlowState) -> GrantList
+        ensures { (result.items ≡ carried_grants _state.now.last _state.now.granted)
+            × (result.sustained ≡ carried_charges _state.now.last (burst_of _state.now.spec) _state.now.sustained)
+            × (result.peak ≡ carried_charges _state.now.last PEAK_BURST _state.now.peak)
+            × (result.reserved
+            ≡ carried_charges _state.now.last (reserved_burst_of _state.now.spec) _state.now.reserved) }
     {
         GrantList {}
     }

@@ -13,6 +13,7 @@ mod gap;
 mod granted;
 mod limits;
 mod line;
+mod opening;
 mod overlay;
 mod parts;
 mod queue;

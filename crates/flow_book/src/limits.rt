@@ -5,12 +5,13 @@ ghost use Rattle.sched_calls.specs.FlowSpec.{rate_of, burst_of, peak_of, reserve
 ghost use Rattle.sched_calls.specs.declared.spec.TheConstants.{PEAK_BURST as THE_PEAK_BURST};
 ghost use Rattle.flow_book.specs.Bucket.{StandsFor, IsSettled, reserves};
 ghost use Rattle.minislots.specs.declared.config.Config.{Config};
-ghost use Rattle.flow_book.specs.Limits.{HasBegunBy, HaveOneMore, StaySettled};
+ghost use Rattle.flow_book.specs.Limits.{HasBegunBy, AreLimitsOf, AreSettled, HaveOneMore, StaySettled};
+ghost use Rattle.flow_book.specs.Carried.{carried_flow, MayBeCarried};
 ghost use Rattle.flow_book.specs.Limits.{most_in, most_with};
 
 use crate::bucket::Bucket;
 use minislots::Checked;
-use sched_calls::{FlowSpec, PEAK_BURST};
+use sched_calls::{FlowSpec, FlowState, PEAK_BURST};
 
 // What both ceilings of a flow leave to it, and its reservation, each over its own present period.
 #[derive(Clone, Copy)]
@@ -37,6 +38,26 @@ impl Limits {
             sustained: sustained_of(config, spec),
             peak: peak_of(config, spec),
             reserved: reserved_of(config, spec),
+        }
+    }
+
+    // Those of a flow that a state tells: each has its level where the last grant starts.
+    pub(crate) fn carried(config: &Checked, state: &FlowState) -> Limits
+        requires { MayBeCarried state.now }
+        ensures stand { AreLimitsOf config.now (carried_flow state.now) result }
+        ensures settled { AreSettled (carried_flow state.now) result }
+    {
+        let (spec, last) = (&state.spec, state.last);
+        Limits {
+            sustained: Bucket::carried(config, spec.rate(), spec.burst(), last, state.sustained),
+            peak: Bucket::carried(config, spec.peak(), PEAK_BURST, last, state.peak),
+            reserved: Bucket::carried(
+                config,
+                spec.reserved(),
+                spec.reserved_burst(),
+                last,
+                state.reserved,
+            ),
         }
     }
 

@@ -12,6 +12,7 @@ ghost use Rattle.sched_calls.specs.Sids.{AscendBy, put_in};
 ghost use Rattle.flow_book.specs.Queue.{IsQueue, IsQueueAmong, IsMoved, AreSameBut, moved_up, moved_down};
 ghost use Rattle.flow_book.specs.declared.tiers.TheConstants.{NO_TIER as NONE};
 ghost use Rattle.flow_book.specs.Queue.{HasPassed, StandsBehind, is_passed, still_waits};
+ghost use Rattle.flow_book.specs.Tiers.{queue_limits};
 
 use crate::bucket::Bucket;
 use crate::flow::Flow;
@@ -174,7 +175,7 @@ fn put_again(queue: &mut Queue, flows: &Flows, place: usize) -> Result<(), Alloc
     Ok(())
 }
 
-// What the queue has of the flow at this place.
+// What the queue has of the flow at this place: one that takes no requests is never served.
 pub(crate) fn waiting_of(flow: &Flow, place: usize) -> Waiting
     requires sum { flow.now.granted ≡ granted (live flow.now) }
     requires within { granted (live flow.now) ≤ flow.now.asked }
@@ -182,17 +183,22 @@ pub(crate) fn waiting_of(flow: &Flow, place: usize) -> Waiting
     ensures turn { result.turn ≡ flow.now.turn }
     ensures wants { result.wants ≡ outstanding (live flow.now) }
     ensures place { result.place ≡ place }
-    ensures sustained { result.sustained ≡ flow.now.limits.sustained }
+    ensures sustained { result.sustained ≡ (queue_limits flow.now).sustained }
     ensures tier { (result.tier == NONE) ≡ is_plain flow.now }
 {
     let limits = &flow.limits;
     let is_plain = limits.peak.is_unlimited() && limits.reserved.is_unlimited();
+    let sustained = if flow.spec.takes_requests() {
+        limits.sustained.again()
+    } else {
+        Bucket::closed()
+    };
     Waiting {
         turn: flow.turn,
         wants: flow.outstanding(),
         place: place as u32,
         tier: if is_plain { NO_TIER } else { 0 },
-        sustained: limits.sustained.again(),
+        sustained,
     }
 }
 

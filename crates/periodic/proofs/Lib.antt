@@ -13,6 +13,7 @@ pub mod Greedy
 pub mod Groups
 pub mod Joined
 pub mod Earlier
+pub mod Carried
 pub mod Choosing
 pub mod OneChoice
 pub mod Adopting

@@ -17,7 +17,8 @@ module _ (sid : ℕ) (rests : Bool) where
       let other : (g.sid == sid) ≡ false = ne_eqb g.sid sid none.0 in
       rw other (ap (λ gs. g ∷ gs) (rest-none placed none.1))
 
-  rest-with : (f : Placed) (others : List Placed) → f.sid ≡ sid → HaveNot sid others
+  -- one that is put in rests or wakes in its place
+  pub rest-with : (f : Placed) (others : List Placed) → f.sid ≡ sid → HaveNot sid others
       → with_rest sid rests (with_placed f others) ≡ with_placed (resting rests f) others
   rest-with f [] own none = rw (eq-eqb f.sid sid own) refl
   rest-with f (g ∷ others) own none =

@@ -5,6 +5,7 @@ pub use Rattle.sched_calls.specs.Sids
 pub mod Placement
 pub mod Table
 pub mod PlaceState
+pub mod Carried
 pub mod Choice
 pub mod Bits
 pub mod Rows

@@ -14,6 +14,7 @@ ghost use Rattle.periodic.specs.Table.{placed_grants, IsPlaced, IsNotPlaced, Has
 ghost use Rattle.periodic.specs.Table.{without, AreSound, IsWithinFrame, FollowInTurn};
 
 mod moving;
+mod opening;
 mod standing;
 
 use crate::MAX_SPOTS;

@@ -1,7 +1,8 @@
 -- What the flows take of the frames gone through may stand together there.
 use Rattle.std.proofs.Common.{ℕ, ◌<◌}
 use Rattle.periodic.specs.Placement.{spots_in}
-use Rattle.channel_states.specs.PossiblePlaces.{placed_in, MayStandTogether}
+use Rattle.channel_states.specs.PossiblePlaces.{MayStandTogether}
+use Rattle.periodic.specs.Carried.{placed_in}
 use Rattle.channel_states.proofs.frame.stand_beside.Given as goal
 
 abbrev pub invariant-loop-place : goal.invariant-loop-place

@@ -1,7 +1,8 @@
 -- The first flow whose spots may not stand beside what is taken says that not all may.
 use Rattle.std.proofs.Common.{◌≡◌, refl, sym, ap, ◌∙◌, subst, ◌+◌, ◌++◌, drop, append_assoc, arith}
 use Rattle.periodic.specs.Placement.{spots_in}
-use Rattle.channel_states.specs.PossiblePlaces.{placed_in, MayStandTogether}
+use Rattle.channel_states.specs.PossiblePlaces.{MayStandTogether}
+use Rattle.periodic.specs.Carried.{placed_in}
 use Rattle.channel_states.specs.Taken.{taken_in, taken_by}
 use Rattle.channel_states.proofs.Left.{drop-here}
 use Rattle.channel_states.proofs.Together.{together-front, spots-first}

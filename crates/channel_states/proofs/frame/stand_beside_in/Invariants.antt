@@ -1,7 +1,8 @@
 -- What is taken, and what the flows take that are left, is what all flows take.
 use Rattle.std.proofs.Common.{◌≡◌, ◌++◌, drop}
 use Rattle.periodic.specs.Placement.{spots_in}
-use Rattle.channel_states.specs.PossiblePlaces.{placed_in, MayStandTogether}
+use Rattle.channel_states.specs.PossiblePlaces.{MayStandTogether}
+use Rattle.periodic.specs.Carried.{placed_in}
 use Rattle.channel_states.specs.Taken.{taken_in}
 use Rattle.channel_states.proofs.frame.stand_beside_in.Given as goal
 

@@ -1,6 +1,8 @@
 -- A place more is gone through.
 use Rattle.std.proofs.Common.{◌≡◌, refl, sym, ◌∙◌, subst, ◌-◌, take, arith}
 use Rattle.std.proofs.lemmas.List.{take_all, length-set}
+use Rattle.std.specs.Prelude.{if◌then◌else◌}
+use Rattle.sched_calls.specs.FlowSpec.{takes_requests}
 use Rattle.flow_book.specs.declared.flow.Flow.{Flow}
 use Rattle.flow_book.specs.Entry.{IsCopy}
 use Rattle.flow_book.specs.FlowList.{AreGrantsAt}
@@ -44,7 +46,7 @@ loop-waiting-preserved c = record {
       let e : c.take_over.new.self ≡ record f {
         turn = w.turn;
         granted = f.asked - w.wants;
-        limits = limits_in c.args.tiers.now w;
+        limits = if takes_requests f.spec then limits_in c.args.tiers.now w else f.limits;
         grants = grants;
       } = c.take_over.ensures in
       let here = is-here channel old items c.args.tiers.now queue can i w lt is new f long read part in

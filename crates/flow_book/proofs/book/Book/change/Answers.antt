@@ -19,11 +19,10 @@ follow-self-inside-requires-clause-book c =
     let is =
     placed c.args.sid items c.place-place.result f (rw (← c.self.view_is) at c.place-place.ensures)
     c.at_mut.ensures.value in
-    let keeps = placed-sums config c.args.sid items c.place-place.result f c.self.invariant.book is in
-    let kind = rw (← c.self.view_is, is.found) at c.requires.kind in (
+    let keeps = placed-sums config c.args.sid items c.place-place.result f c.self.invariant.book is in (
       config,
       changed-book config c.args.sid c.args.spec items c.place-place.result c.change.new.self f
-          c.self.invariant.book is c.change.ensures.live ((rw c.config.ensures at c.change.ensures.sums) kind keeps),
+          c.self.invariant.book is c.change.ensures.live ((rw c.config.ensures at c.change.ensures.sums) keeps),
     )
 
 pub follow_at-requires-clause-book : goal.follow_at-requires-clause-book
@@ -34,11 +33,10 @@ follow_at-requires-clause-book c =
     let is =
     placed c.args.sid items c.place-place.result f (rw (← c.self.view_is) at c.place-place.ensures)
     c.at_mut.ensures.value in
-    let keeps = placed-sums config c.args.sid items c.place-place.result f c.self.invariant.book is in
-    let kind = rw (← c.self.view_is, is.found) at c.requires.kind in (
+    let keeps = placed-sums config c.args.sid items c.place-place.result f c.self.invariant.book is in (
       config,
       changed-book config c.args.sid c.args.spec items c.place-place.result c.change.new.self f
-          c.self.invariant.book is c.change.ensures.live ((rw c.config.ensures at c.change.ensures.sums) kind keeps),
+          c.self.invariant.book is c.change.ensures.live ((rw c.config.ensures at c.change.ensures.sums) keeps),
     )
 
 pub follow-self-inside-requires-clause-queue : goal.follow-self-inside-requires-clause-queue
@@ -58,10 +56,9 @@ invariant_of-self c =
     placed c.args.sid items c.place-place.result f (rw (← c.self.view_is) at c.place-place.ensures)
     c.at_mut.ensures.value in
     let keeps = placed-sums config c.args.sid items c.place-place.result f c.self.invariant.book is in
-    let kind = rw (← c.self.view_is, is.found) at c.requires.kind in
     record {
       book = changed-book config c.args.sid c.args.spec items c.place-place.result c.change.new.self f
-          c.self.invariant.book is c.change.ensures.live ((rw c.config.ensures at c.change.ensures.sums) kind keeps);
+          c.self.invariant.book is c.change.ensures.live ((rw c.config.ensures at c.change.ensures.sums) keeps);
       order = λ known. c.follow-self-inside.ensures known;
       lined = c.follow_at.ensures c.self.inside.channel items c.self.invariant.book
           (has-changed c.args.sid items c.place-place.result c.at_mut.result.now _ _ is c.at_mut.ensures.value

@@ -38,7 +38,7 @@ follow-self-inside-requires-clause-book c =
     c.at_mut.ensures.value in (
       c.self.inside.channel,
       rw c.replace.ensures (replaced-book c.self.inside.channel c.args.sid c.args.bytes c.args.heard
-          items c.place-place.result f c.self.invariant.book is (rw (← c.self.view_is, is.found) at c.requires.asks)),
+          items c.place-place.result f c.self.invariant.book is),
     )
 
 pub follow_at-requires-clause-book : goal.follow_at-requires-clause-book
@@ -50,7 +50,7 @@ follow_at-requires-clause-book c =
     c.at_mut.ensures.value in (
       c.self.inside.channel,
       rw c.replace.ensures (replaced-book c.self.inside.channel c.args.sid c.args.bytes c.args.heard
-          items c.place-place.result f c.self.invariant.book is (rw (← c.self.view_is, is.found) at c.requires.asks)),
+          items c.place-place.result f c.self.invariant.book is),
     )
 
 pub follow-self-inside-requires-clause-queue : goal.follow-self-inside-requires-clause-queue
@@ -70,7 +70,7 @@ invariant_of-self c =
     c.at_mut.ensures.value in
     record {
       book = rw c.replace.ensures (replaced-book c.self.inside.channel c.args.sid c.args.bytes c.args.heard items
-          c.place-place.result f c.self.invariant.book is (rw (← c.self.view_is, is.found) at c.requires.asks));
+          c.place-place.result f c.self.invariant.book is);
       order = λ known. c.follow-self-inside.ensures known;
       lined = c.follow_at.ensures c.self.inside.channel items c.self.invariant.book
           (has-changed c.args.sid items c.place-place.result c.at_mut.result.now _ _ is c.at_mut.ensures.value

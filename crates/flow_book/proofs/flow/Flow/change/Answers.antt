@@ -24,7 +24,7 @@ made-in true slot charges begun is made = rw is made
 made-in false slot charges begun is made = rw is tt
 
 pub returns-clause-sums : goal.returns-clause-sums
-returns-clause-sums c = λ kind keeps.
+returns-clause-sums c = λ keeps.
     let f = c.args.self.now in
     let spec = c.args.spec in
     let grants = c.under-self.result in
@@ -56,7 +56,6 @@ returns-clause-sums c = λ kind keeps.
       spec = spec;
     }) first.same) in
     let sums : KeepsSums c.args.config.now made = record {
-      asks = λ some. kind ∙ keeps.asks some;
       granted = rw are.0 keeps.granted;
       turn = (
         (let low = below-top spec in omega (arith, low, c.top_rank.ensures, c.top_rank.type_inv)),

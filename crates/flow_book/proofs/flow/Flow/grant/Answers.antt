@@ -43,7 +43,7 @@ returns-clause-sums c =
     let bytes = c.args.bytes in
     let new = c.take-is_reserved.new.self in
     let wanted = c.wanted-wanted.ensures.value in
-    c.note.ensures.sums channel (counted c) keeps.asks keeps.granted keeps.turn c.requires.started
+    c.note.ensures.sums channel (counted c) keeps.granted keeps.turn c.requires.started
     keeps.charges
     (limits-more channel (live f) f.limits new start bytes keeps.charges c.requires.started keeps.limits
     (subst (λ n. HaveOneMore f.limits new start n bytes) wanted c.take-is_reserved.ensures.taken))

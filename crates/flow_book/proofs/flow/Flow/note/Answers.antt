@@ -10,7 +10,7 @@ use Rattle.flow_book.proofs.Sums.{last-more, last-behind, bytes-added}
 use Rattle.flow_book.proofs.flow.Flow.note.Goals as goal
 
 pub returns-clause-sums : goal.returns-clause-sums
-returns-clause-sums c = λ channel is asks sum knows started charges stand settled.
+returns-clause-sums c = λ channel is sum knows started charges stand settled.
     let f = c.args.self.now in
     let g : Grant = record { start = c.args.start; bytes = c.args.bytes } in
     let are = c.and-self.ensures in
@@ -18,7 +18,6 @@ returns-clause-sums c = λ channel is asks sum knows started charges stand settl
     are.3 ∙ ap (λ b. cond b (f.grants.reserved ++ charge_of g ∷ []) f.grants.reserved) is in
     let last = ap last_start are.0 ∙ last-more f.grants.items g in
     record {
-      asks = asks;
       granted =
           omega (arith, c.from.ensures, sum, ap bytes_of are.0, bytes-added f.grants.items g.start g.bytes);
       turn = (

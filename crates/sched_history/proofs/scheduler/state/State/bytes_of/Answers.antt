@@ -9,4 +9,4 @@ pub returns : goal.returns
 returns c =
     flow_status-sums (flow_of c.args.sid c.args.self.now.book.flows) c.sums-asked.result.0 c.sums-asked.result.1
     (find-all IsWithinAsked (λ f. f.sid == c.args.sid) c.args.self.now.book.flows c.requires.within)
-    c.sums-asked.ensures.value c.sums-asked.ensures.asks
+    c.sums-asked.ensures.asked c.sums-asked.ensures.left
