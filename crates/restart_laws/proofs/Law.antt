@@ -19,6 +19,7 @@ use Rattle.sched_history.proofs.steps.Steps.{IsLegal-push}
 use Rattle.sched_history.proofs.situations.GoingOn.{GoesOn-from, IsLegalFrom-split}
 use Rattle.restart_laws.proofs.steps.Step.{IsStepOfBoth, step-alike}
 use Rattle.restart_laws.proofs.Alike.{IsSteady, IsAlike}
+use Rattle.restart_laws.proofs.possible.States.{state-possible}
 use Rattle.restart_laws.proofs.states.Legal.{IsSteady-legal}
 use Rattle.restart_laws.proofs.states.Periodic.{periodic-alike}
 use Rattle.restart_laws.proofs.states.States.{state-alike, alike-sym, carried-alike-whole, carried-steady-whole}
@@ -90,7 +91,7 @@ module _ (c : Config) (lawful : IsLawful c) where
       (subst (λ s. LegalFrom c s es) (left-there h legal e.call e.reply goes.0 goes.1 e.stamp) goes.2) in
       (step, subst (λ s. IsLegalFrom c s es) (situation_of-push c h e step) rest)
 
--- what may come after a legal history is told by its state
+-- what may come after a legal history is told by its state, which is possible
 pub every-restart : IsEveryRestart
 every-restart c h lawful legal = record {
   step = λ call reply. (
@@ -102,4 +103,5 @@ every-restart c h lawful legal = record {
     λ on. legal-from c lawful h es legal (IsLegalFrom-split c h es on).1,
     λ from. (GoesOn-from c h es legal (from-legal c lawful h es legal from)).legal,
   );
+  possible = state-possible c lawful h legal;
 }

@@ -4,6 +4,7 @@ pub mod maps
 pub mod tables
 pub mod steps
 pub mod states
+pub mod possible
 pub mod Law
 pub mod RowsCarried
 pub mod RowsTaking

@@ -9,7 +9,7 @@ use Rattle.flow_book.specs.FlowState.{flow_state}
 use Rattle.flow_book.specs.Flows.{LiveFlow, Charge, charges_of}
 use Rattle.flow_book.proofs.Profile.{one_request}
 use Rattle.flow_book.proofs.RowsCeiling.{grant, under_ceiling}
-use Rattle.restart_laws.specs.Carried.{carried_grants, carried_charges, carried_flow}
+use Rattle.flow_book.specs.Carried.{carried_grants, carried_charges, carried_flow}
 
 -- what the state of a flow stands for
 abbrev pub carried_of : LiveFlow → LiveFlow

@@ -1,4 +1,5 @@
 -- Steps of situations of one state.
+pub mod Granted
 pub mod Refusals
 pub mod Demands
 pub mod Answers

@@ -1,12 +1,14 @@
 -- A step from a state, and what follows from the state of a history for all that comes after it.
-use Rattle.std.specs.Prelude.{◌≡◌, ◌↔◌, List, [], ◌∷◌, ◌++◌}
+use Rattle.std.specs.Prelude.{◌≡◌, ◌↔◌, ◌≤◌, List, [], ◌∷◌, ◌++◌, length}
 use Rattle.minislots.specs.declared.config.Config.{Config}
 use Rattle.minislots.specs.declared.stamp.Stamp.{Stamp}
 use Rattle.minislots.specs.Config.{IsLawful}
 use Rattle.sched_calls.specs.declared.call.Call.{Call}
 use Rattle.sched_calls.specs.declared.reply.Reply.{Reply}
 use Rattle.sched_calls.specs.declared.reply.Entry.{Entry}
+use Rattle.sched_calls.specs.declared.reply.TheConstants.{MAX_WHOLE_HISTORY}
 use Rattle.sched_calls.specs.declared.state.ChannelState.{ChannelState}
+use Rattle.channel_states.specs.Possible.{IsPossible}
 use Rattle.sched_history.specs.Situation.{after}
 use Rattle.sched_history.specs.History.{IsStep, IsStepIn, IsLegal}
 use Rattle.sched_history.specs.ChannelState.{state_in, state_of}
@@ -37,6 +39,8 @@ pub record IsRestart (c : Config) (h : List Entry) : Type 0 where
       → StepFrom c (state_of c h) call reply left → left ≡ state_of c (h ++ entry_of stamp call reply ∷ [])
   -- and so for all entries
   pub legal : (es : List Entry) → IsLegal c (h ++ es) ↔ LegalFrom c (state_of c h) es
+  -- a history of at most so many entries as a whole one may have leaves a possible state
+  pub possible : length h ≤ MAX_WHOLE_HISTORY → IsPossible c (state_of c h)
 
 -- so it is for every legal history under a lawful configuration
 abbrev pub IsEveryRestart : Type 0

@@ -6,7 +6,7 @@ use Rattle.std.proofs.lemmas.Bool.Decides.{nat_tests}
 use Rattle.flow_book.specs.Batches.{is_over, with_request, since_of}
 use Rattle.flow_book.specs.declared.batches.Batches.{Batches}
 use Rattle.flow_book.specs.FlowState.{batch_state}
-use Rattle.restart_laws.specs.Carried.{carried_batches}
+use Rattle.flow_book.specs.Carried.{carried_batches}
 
 module _ (b : Batches) (asked given : ℕ) where
   -- the batches that the state tells, where bytes are outstanding

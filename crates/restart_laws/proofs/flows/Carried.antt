@@ -15,7 +15,7 @@ use Rattle.flow_book.specs.FlowState.{level_after, batch_state, flow_state}
 use Rattle.flow_book.proofs.Sums.{last-started}
 use Rattle.periodic.specs.Placement.{Placed}
 use Rattle.sched_history.specs.ChannelState.{flow_state_in}
-use Rattle.restart_laws.specs.Carried.{carried_grants, carried_charges, carried_batches, carried_flow}
+use Rattle.flow_book.specs.Carried.{carried_grants, carried_charges, carried_batches, carried_flow}
 use Rattle.restart_laws.proofs.Alike.{IsSteadyFlow, AlikeFlow}
 use Rattle.restart_laws.proofs.flows.Batches.{state-carried}
 use Rattle.restart_laws.proofs.flows.Charges.{left-small}

@@ -17,7 +17,7 @@ use Rattle.flow_book.specs.declared.batches.Batches.{Batches}
 use Rattle.flow_book.specs.Flows.{LiveFlow, Charge, AreMadeBy, granted}
 use Rattle.flow_book.specs.FlowState.{level_after, batch_state}
 use Rattle.flow_book.proofs.Reservation.{both-hold}
-use Rattle.restart_laws.specs.Carried.{carried_batches}
+use Rattle.flow_book.specs.Carried.{carried_batches}
 use Rattle.restart_laws.proofs.Alike.{IsSteadyFlow, AlikeFlow}
 use Rattle.restart_laws.proofs.flows.Batches.{request-carried}
 use Rattle.restart_laws.proofs.flows.Fields.{alike-of, sid-alike, granted-alike, last-alike, batches-alike}

@@ -11,7 +11,7 @@ use Rattle.flow_book.specs.Choice.{last_start, last_slot}
 use Rattle.flow_book.specs.Flows.{LiveFlow, granted, outstanding}
 use Rattle.flow_book.specs.FlowState.{level_after, batch_state}
 use Rattle.flow_book.specs.Shown.{since}
-use Rattle.restart_laws.specs.Carried.{carried_batches}
+use Rattle.flow_book.specs.Carried.{carried_batches}
 use Rattle.restart_laws.proofs.Alike.{AlikeFlow}
 use Rattle.restart_laws.proofs.flows.Batches.{since-carried}
 

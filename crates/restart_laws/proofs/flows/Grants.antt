@@ -14,7 +14,7 @@ use Rattle.flow_book.specs.FlowState.{level_after, batch_state}
 use Rattle.flow_book.specs.Reserved.{is_under, with_grant}
 use Rattle.flow_book.proofs.Started.{started-later, started-push, made-push}
 use Rattle.flow_book.proofs.Sums.{last-more, bytes-added}
-use Rattle.restart_laws.specs.Carried.{carried_batches}
+use Rattle.flow_book.specs.Carried.{carried_batches}
 use Rattle.restart_laws.proofs.Alike.{IsSteadyFlow, AlikeFlow}
 use Rattle.restart_laws.proofs.flows.Fields.{alike-of, sid-alike, spec-alike, asked-alike, granted-alike}
 use Rattle.restart_laws.proofs.flows.Fields.{outstanding-alike}

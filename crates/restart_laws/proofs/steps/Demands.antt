@@ -7,7 +7,7 @@ use Rattle.sched_calls.specs.declared.frame_map.FrameMap.{FrameMap}
 use Rattle.flow_book.specs.Flows.{LiveFlow}
 use Rattle.periodic.specs.declared.placement.Spot.{Spot}
 use Rattle.periodic.specs.Placement.{due_in}
-use Rattle.map_build.specs.Plan.{Demand, with_grants, flow_after, flows_after}
+use Rattle.map_build.specs.Plan.{Demand, with_grants}
 use Rattle.map_build.specs.FrameMap.{IsLawfulMap}
 use Rattle.sched_history.specs.declared.scheduler.settling.Settling.{Settling}
 use Rattle.sched_history.specs.Life.{grants_of_map}
@@ -16,13 +16,12 @@ use Rattle.sched_history.specs.Settling.{settles_by}
 use Rattle.sched_history.specs.Time.{least}
 use Rattle.sched_history.specs.Situation.{Situation, settles_in, spots_next}
 use Rattle.sched_history.specs.History.{demand_in, IsNextMapIn}
-use Rattle.sched_history.proofs.flows.FlowCalls.{map-each}
-use Rattle.sched_history.proofs.flows.MapGrants.{plan-HasBytes, grants_of_map-plan}
 use Rattle.restart_laws.proofs.Alike.{IsAlike}
 use Rattle.restart_laws.proofs.tables.Alike.{due-alike}
 use Rattle.restart_laws.proofs.maps.Choice.{AreAlikeAt}
 use Rattle.restart_laws.proofs.maps.Plan.{plan-alike}
 use Rattle.restart_laws.proofs.maps.Maps.{lawful-alike}
+use Rattle.restart_laws.proofs.steps.Granted.{granted-plan}
 
 -- what a frame has to serve
 abbrev demand : ℕ → List LiveFlow → List Spot → List Opportunity → Bool → Demand
@@ -73,17 +72,9 @@ module _ (c : Config) (x y : Situation) (alike : IsAlike c x y) where
         (least y.progress) demand-alike alike.header (ap least alike.progress)
         (lawful-alike c (demand_in c x) y.flows x.header (least x.progress) m are lawful)
 
-    granted-plan : (flows : List LiveFlow)
-        → map (λ f. with_grants c (grants_of_map f.sid m) f) flows ≡ flows_after c x.next lawful.0 flows
-    granted-plan flows =
-        let has = plan-HasBytes c (demand_in c x) lawful.0 lawful.1 in
-        map-each (λ f. with_grants c (grants_of_map f.sid m) f) (flow_after c x.next lawful.0) flows
-        (λ f. ap (λ grants. with_grants c grants f) (ap (grants_of_map f.sid) lawful.2
-        ∙ grants_of_map-plan f.sid c (demand_in c x) x.header (least x.progress) lawful.0 has))
-
     -- and leaves the flows alike
     pub granted-alike : AreAlikeAt c (x.next + c.frame) (map (λ f. with_grants c (grants_of_map f.sid m) f) x.flows)
         (map (λ f. with_grants c (grants_of_map f.sid m) f) y.flows)
     granted-alike =
-        rw (granted-plan x.flows, granted-plan y.flows)
+        rw (granted-plan c x m lawful x.flows, granted-plan c x m lawful y.flows)
         (plan-alike c (demand_in c x) y.flows lawful.0 are lawful.1).left

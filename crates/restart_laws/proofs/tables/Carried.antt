@@ -13,7 +13,7 @@ use Rattle.flow_book.specs.Flows.{LiveFlow, flow_of}
 use Rattle.flow_book.specs.Book.{Ascend}
 use Rattle.periodic.specs.Placement.{Placed}
 use Rattle.periodic.specs.PlaceState.{place_state}
-use Rattle.channel_states.specs.PossiblePlaces.{placed_at, placed_of, placed_in}
+use Rattle.periodic.specs.Carried.{placed_at, placed_of, placed_in}
 use Rattle.map_build.specs.Spots.{ArePeriodicOf}
 use Rattle.sched_history.specs.ChannelState.{flow_state_in}
 use Rattle.sched_history.proofs.situations.Places.{placed-aperiodic, placed-ascend}
@@ -21,7 +21,7 @@ use Rattle.restart_laws.proofs.Alike.{AlikePlaced, AlikeTables}
 
 module _ {X : Type 0} (sid_of : X → ℕ) where
   -- what is found under the SIDs of some members
-  abbrev AreFoundIn : List X → List X → Type 0
+  abbrev pub AreFoundIn : List X → List X → Type 0
   AreFoundIn xs ys = AllByRecursion (λ y. find (λ z. sid_of z == sid_of y) xs ≡ Some y) ys
 
   found-behind : (x : X) (xs ys : List X) → AllByRecursion (λ y. sid_of x < sid_of y) ys → AreFoundIn xs ys
@@ -33,7 +33,7 @@ module _ {X : Type 0} (sid_of : X → ℕ) where
       (rw other found.0, found-behind x xs ys above.1 found.1)
 
   -- in a list by SID each member is the one that is found under its SID
-  found-each : (xs : List X) → AscendBy sid_of xs → AreFoundIn xs xs
+  pub found-each : (xs : List X) → AscendBy sid_of xs → AreFoundIn xs xs
   found-each [] up = tt
   found-each (x ∷ xs) up =
       let own : (sid_of x == sid_of x) ≡ true = grind (arith, nat_tests) in
