@@ -24,7 +24,8 @@ use Rattle.history_reading.specs.Replies.{refused_reply, reply_of, entry_of}
 use Rattle.history_reading.specs.Recorded.{entries_of, history_of}
 use Rattle.history_writing.specs.Fits.{ConfigFits, MapFits, ValueFits, ReplyFits, EntryFits}
 use Rattle.state_text.proofs.FlowText.{below-fits}
-use Rattle.laws.proofs.ReadBack.{call_of-data, config_of-data}
+use Rattle.segment_line.proofs.ConfigBack.{config_of-data}
+use Rattle.laws.proofs.ReadBack.{call_of-data}
 use Rattle.history_reading.proofs.Payload.{map_of-spelling}
 use Rattle.laws.proofs.Spelled.{IsBytes-spelling}
 use Rattle.laws.proofs.RefusalNumbers.{refusal_with-number, number_fits}

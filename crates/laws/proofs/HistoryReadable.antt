@@ -29,7 +29,7 @@ use Rattle.state_text.proofs.Readable.{IsReadable, AreReadable}
 use Rattle.laws.proofs.RefusalNumbers.{number_fits}
 use Rattle.state_text.proofs.FlowText.{of_word, name, counts_readable}
 use Rattle.laws.proofs.CallReadable.{call_readable}
-use Rattle.laws.proofs.CallReadable.{config_readable}
+use Rattle.segment_line.proofs.ConfigReadable.{config_readable}
 
 -- digits in lower case are ASCII
 ascii_of : (s : List ℕ) → are_ascii s ≡ true → IsAscii s

@@ -3,15 +3,12 @@ pub mod Readable
 pub mod Spelled
 pub mod RefusalNumbers
 pub mod RefusalFound
-mod Standing
 pub mod ReadBack
 pub mod HistoryAgain
 pub mod CallReadable
 pub mod HistoryReadable
 pub mod HistoryDepth
 pub mod ReadAgain
-pub mod NoNewline
-pub mod TextRoom
 pub mod EntryRoom
 pub mod Times
 pub mod Refusals

@@ -17,16 +17,17 @@ use Rattle.history_writing.specs.Fits.{ConfigFits, EntryFits}
 use Rattle.history_writing.specs.HistoryText.{entry_data}
 use Rattle.history_reading.specs.Recorded.{entry_in}
 use Rattle.state_text.proofs.Readable.{IsReadable, read-alone, IsUtf8-compact}
-use Rattle.laws.proofs.ReadBack.{config_of-data}
-use Rattle.laws.proofs.CallReadable.{config_readable}
+use Rattle.segment_line.proofs.ConfigBack.{config_of-data}
+use Rattle.segment_line.proofs.ConfigReadable.{config_readable}
 use Rattle.laws.proofs.HistoryAgain.{entry_of-data}
 use Rattle.laws.proofs.HistoryReadable.{entry_readable}
-use Rattle.laws.proofs.HistoryDepth.{depth-entry, depth-config}
+use Rattle.segment_line.proofs.ConfigDepth.{depth-config}
+use Rattle.laws.proofs.HistoryDepth.{depth-entry}
 use Rattle.history_writing.specs.Journal.{opening_data, opening_line, entry_line}
 use Rattle.journal_entries.specs.Standing.{opening_in, entry_in_line, ended_lines}
 use Rattle.journal_entries.proofs.Lines.{in_line-short}
 use Rattle.laws.specs.JournalAgain.{IsEntryLine, HasReadableLine, HasReadableLines, IsTextOf}
-use Rattle.laws.proofs.NoNewline.{compact_within}
+use Rattle.segment_line.proofs.NoNewline.{compact_within}
 
 -- the text of a value is read as the value
 value-compact : (d : Data) → IsReadable d → depth d ≤ max_depth → value_of (compact_text d) ≡ Ok d

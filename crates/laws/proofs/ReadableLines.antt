@@ -18,8 +18,9 @@ use Rattle.laws.proofs.HistoryReadable.{entry_readable}
 use Rattle.history_writing.specs.Journal.{opening_data, opening_line, entry_line}
 use Rattle.laws.specs.LawfulHistory.{IsCallOfTypes}
 use Rattle.laws.specs.JournalAgain.{HasReadableLine, IsHistoryReadable}
-use Rattle.laws.proofs.TextRoom.{length-compact}
-use Rattle.laws.proofs.EntryRoom.{IsShort, room-entry, room-config}
+use Rattle.segment_line.proofs.TextRoom.{length-compact}
+use Rattle.segment_line.proofs.ConfigRoom.{room-config}
+use Rattle.laws.proofs.EntryRoom.{IsShort, room-entry}
 use Rattle.laws.proofs.LegalFits.{reply-good}
 use Rattle.laws.proofs.LinesAgain.{opening_readable}
 

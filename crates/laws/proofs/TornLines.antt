@@ -4,7 +4,7 @@ use Rattle.std.specs.List.{AllByRecursion}
 use Rattle.serde_json.specs.Written.{compact_text}
 use Rattle.text_stream.specs.Lines.{IsWithinLine}
 use Rattle.journal_file.specs.Standing.{IsPartOfLine}
-use Rattle.laws.proofs.NoNewline.{compact_within}
+use Rattle.segment_line.proofs.NoNewline.{compact_within}
 
 -- what holds of all holds of the first
 pub all-take : {X : Type 0} (P : X → Type 0) (n : ℕ) (xs : List X) → AllByRecursion P xs → AllByRecursion P (take n xs)

@@ -3,7 +3,7 @@ pub mod Ordered
 pub mod Readable
 pub mod Parts
 pub mod FlowText
-mod StateReadable
+pub mod StateReadable
 mod StateFound
 mod StateRead
 pub mod RowsReading

@@ -1,6 +1,8 @@
 -- How many bytes the compact text of a value has at most.
-use Rattle.std.proofs.Common.{ℕ, ◌+◌, ◌*◌, ◌≤◌, Bool, true, false, cond, nat_lt, List, [], ◌∷◌, ◌++◌, length}
-use Rattle.std.proofs.Common.{arith, length-append}
+use Rattle.std.proofs.Common.{◌≡◌, ℕ, ◌+◌, ◌*◌, ◌≤◌, Bool, true, false, not, ◌&&◌, cond, nat_lt, List, [], ◌∷◌, ◌++◌}
+use Rattle.std.proofs.Common.{length, inl, inr, refl, arith, length-append}
+use Rattle.std.specs.Prelude.{if◌then◌else◌}
+use Rattle.std.proofs.lemmas.Bool.{and_parts, cases_Bool}
 use Rattle.std.proofs.lemmas.Fmt.{length-decimal-le}
 use Rattle.json.specs.Print.{escape_letter, escape_byte, escape, quoted}
 use Rattle.serde_json.specs.Data.{Num, unsigned, negative, float, Data, null, boolean, number, string, array, object}
@@ -8,9 +10,25 @@ use Rattle.serde_json.specs.Data.{Items, no_items, item, Members, no_members, me
 use Rattle.serde_json.specs.Written.{comma_if, compact_text, items_text, members_text}
 use Rattle.state_text.proofs.Readable.{IsReadable, AreReadable, MembersReadable}
 
--- the room for a text: six bytes for each of its bytes, and its quotes
-abbrev quoted_room : List ℕ → ℕ
-quoted_room s = 6 * length s + 2
+-- a byte stands in a string as it is
+abbrev prints_itself : ℕ → Bool
+prints_itself x = not (nat_lt 0 (escape_letter x)) && not (nat_lt x 32)
+
+-- so does each of these
+abbrev print_themselves : List ℕ → Bool
+print_themselves [] = true
+print_themselves (x ∷ s) = prints_itself x && print_themselves s
+
+-- the room for a text: its bytes where each stands there as it is, and else six for each, and its quotes
+abbrev pub quoted_room : List ℕ → ℕ
+quoted_room s = if print_themselves s then length s + 2 else 6 * length s + 2
+
+-- it is never more than that
+pub quoted_room-most : (s : List ℕ) → quoted_room s ≤ 6 * length s + 2
+quoted_room-most s = elim (cases_Bool (print_themselves s)) [
+  | inl plain ↦ rw plain (omega arith)
+  | inr other ↦ rw other (omega arith)
+]
 
 -- the room for a value: 20 digits for a number of 64 bits
 abbrev mutual
@@ -32,6 +50,10 @@ abbrev mutual
   members_room no_members = 0
   members_room (member k d ms) = quoted_room k + 2 + room d + members_room ms
 
+not_true : (b : Bool) → not b ≡ true → b ≡ false
+not_true true is = absurd cc
+not_true false is = refl
+
 either : (b : Bool) (s t : List ℕ) → length s ≤ 6 → length t ≤ 6 → length (cond b s t) ≤ 6
 either true s t p q = p
 either false s t p q = q
@@ -46,8 +68,29 @@ length-escape [] = omega arith
 length-escape (x ∷ s) =
     omega (arith, length-append (escape_byte x) (escape s), length-escape_byte x, length-escape s)
 
+length-itself : (x : ℕ) → prints_itself x ≡ true → length (escape_byte x) ≡ 1
+unfolding escape_byte
+length-itself x plain =
+    let parts = and_parts (not (nat_lt 0 (escape_letter x))) (not (nat_lt x 32)) plain in
+    rw (not_true (nat_lt 0 (escape_letter x)) parts.0, not_true (nat_lt x 32) parts.1) refl
+
+length-themselves : (s : List ℕ) → print_themselves s ≡ true → length (escape s) ≡ length s
+length-themselves [] plain = refl
+length-themselves (x ∷ s) plain =
+    let parts = and_parts (prints_itself x) (print_themselves s) plain in
+    omega (
+      arith,
+      length-append (escape_byte x) (escape s),
+      length-itself x parts.0,
+      length-themselves s parts.1,
+    )
+
 length-quoted : (s : List ℕ) → length (quoted s) ≤ quoted_room s
-length-quoted s = omega (arith, length-append (escape s) (34 ∷ []), length-escape s)
+length-quoted s = elim (cases_Bool (print_themselves s)) [
+  | inl plain ↦
+      rw plain (omega (arith, length-append (escape s) (34 ∷ []), length-themselves s plain))
+  | inr other ↦ rw other (omega (arith, length-append (escape s) (34 ∷ []), length-escape s))
+]
 
 length-number : (n : Num) → IsReadable (number n) → length (compact_text (number n)) ≤ 20
 length-number (unsigned n) h = length-decimal-le 20 n (omega arith) (omega (arith, h)) h

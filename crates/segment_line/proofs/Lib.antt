@@ -1,0 +1,10 @@
+pub mod ConfigPlaces
+pub mod ConfigBack
+pub mod ConfigReadable
+pub mod ConfigDepth
+pub mod TextRoom
+pub mod ConfigRoom
+pub mod StateRoom
+pub mod NoNewline
+pub mod SegmentText
+pub mod SegmentRead
