@@ -280,7 +280,7 @@ class Tally:
 
 
 # The commands that only the program with all of them has.
-LATER = {"draw", "audit", "report", "storm", "check", "live", "bursts"}
+LATER = {"draw", "audit", "report", "storm", "check", "live", "bursts", "state"}
 
 
 class Program(Tally):

@@ -316,3 +316,27 @@ Exit statuses: 0, or 2 for the command line, 3 for the input, 4 for the machine.
 
 Example:
   ./mapsched bursts 77 < examples/bursts.json"#;
+
+/// The command that tells the state that a history leaves.
+pub const STATE: &str =
+    r#"Reads from standard input or FILE a script, a history as `run --history` prints it, or
+a journal as `run --journal` prints it, of any length: whichever it is by its first
+line, which of a journal is {"config": {..}}.
+
+Prints the first line of a journal that could go on from there, a segment with the
+state after all entries, on which every later reply depends:
+{"segment": {"config": {..}, "crc": 12, "number": 2, "state": {..}}}
+`crc` is the CRC-32 of the text of the state. With --explain it prints the state as a
+table: times and header, the flows with their bytes, what is left of their bursts at
+the start of their last grants, the requests that wait, the places of periodic flows,
+and the Reserves that wait.
+
+Of an illegal history or journal it prints what `audit` prints. Bytes after the last
+newline of a journal are ignored: standard error says `torn` and how many; and it says
+how many calls of a script were not recorded. A segment itself is not read yet.
+
+Exit statuses: 0, 1 illegal, 2 for the command line, 3 for the input (of a journal
+`bad journal at N`, the line, counted from 0), 4 for the machine.
+
+Example:
+  ./mapsched state < examples/two_maps.json"#;

@@ -440,6 +440,18 @@ fn bursts_command<'a>(alloc: Global) -> Result<Command<'a>, AllocError>
     with_word(words, flag(alloc, "json", "Prints all numbers in JSON"))
 }
 
+// The command that tells the state which a history leaves.
+fn state_command<'a>(alloc: Global) -> Result<Command<'a>, AllocError>
+    ensures { IfOk result
+        (λ r. IsCommand r (codes "state") (codes "explain" ∷ codes "FILE" ∷ []) []) }
+{
+    let about =
+        "Reads a script, a history or a journal from standard input and prints the state after it";
+    let words = Ok(command(alloc, "state", about, help::STATE));
+    let words = with_word(words, flag(alloc, "explain", "Prints it as a table"));
+    with_word(words, file_word(alloc))
+}
+
 /// The commands of the program, with their options and their help. Out of memory is the only error.
 pub fn commands<'a>(alloc: Global) -> Result<Command<'a>, AllocError>
     ensures { IfOk result (λ r. IsCommand r (codes "mapsched") []
@@ -458,7 +470,8 @@ pub fn commands<'a>(alloc: Global) -> Result<Command<'a>, AllocError>
         ∷ (codes "storm", codes "FILE" ∷ []) ∷ (codes "check", codes "json" ∷ codes "FILE" ∷ [])
         ∷ (codes "pcap", codes "mac" ∷ codes "journal" ∷ codes "FILE" ∷ [])
         ∷ (codes "live", codes "explain" ∷ codes "frames" ∷ codes "journal" ∷ codes "sync" ∷ [])
-        ∷ (codes "bursts", codes "BYTES" ∷ codes "json" ∷ []) ∷ [])) }
+        ∷ (codes "bursts", codes "BYTES" ∷ codes "json" ∷ [])
+        ∷ (codes "state", codes "explain" ∷ codes "FILE" ∷ []) ∷ [])) }
 {
     let words = Ok(program(alloc));
     let words = with_command(words, run_command(alloc));
@@ -470,5 +483,6 @@ pub fn commands<'a>(alloc: Global) -> Result<Command<'a>, AllocError>
     let words = with_command(words, check_command(alloc));
     let words = with_command(words, pcap_command(alloc));
     let words = with_command(words, live_command(alloc));
-    with_command(words, bursts_command(alloc))
+    let words = with_command(words, bursts_command(alloc));
+    with_command(words, state_command(alloc))
 }

@@ -44,6 +44,7 @@ fn awaited(name: &str, words: &ArgMatches) -> Option<&'static str> {
             "a script or a history on standard input (or name a file)",
         )),
         "audit" | "report" => Some(document_or_journal(words, history)),
+        "state" => { Some("a script, a history or a journal on standard input (or name a file)") }
         "storm" => Some("the script of a storm on standard input (or name a file)"),
         "check" => Some("what is to be checked on standard input (or name a file)"),
         "live" => Some("a configuration and calls on standard input, one in a line"),

@@ -9,6 +9,7 @@ use live_command::Wording;
 use pcap_command::ADDRESS;
 use report_command::{Form, Range};
 use run_command::{RunOutput, Words};
+use state_command::StateForm;
 use std::alloc::{AllocError, Global};
 
 /// What the command `run` is asked to write, but for whole frames.
@@ -83,6 +84,14 @@ pub(crate) fn range_of(report: &ArgMatches) -> Range {
 /// How many milliseconds each part has that the command `report` is asked for, one after the other.
 pub(crate) fn every_of(report: &ArgMatches) -> Option<u64> {
     report.get_one("every")
+}
+
+/// The form in which the command `state` is asked for a state.
+pub(crate) fn state_form_of(state: &ArgMatches) -> StateForm {
+    if state.get_flag("explain") {
+        return StateForm::Table;
+    }
+    StateForm::Line
 }
 
 /// In what words the command `live` is asked to answer.

@@ -1,5 +1,5 @@
 //! `mapsched`: the upstream scheduler of one TDMA channel, run on a script, the picture of its frames, the capture of
-//! its MAPs, the table of a MAP, the audit of a history, the report on one, and what bursts take.
+//! its MAPs, the table of a MAP, the audit of a history, the report on one, the state after one, and what bursts take.
 #![tactic(auto)]
 
 mod asked;

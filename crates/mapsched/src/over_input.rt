@@ -4,6 +4,7 @@
 
 use crate::asked::{
     audit_form_of, check_form_of, every_of, form_of, journal_form_of, output_of, range_of,
+    state_form_of,
 };
 use audit_command::{JournalEnd, audit_input, audit_journal_input};
 use check_lines::{Documents, Journals, Reads, check_any_input, tell_input};
@@ -19,6 +20,7 @@ use pcap_command::{ADDRESS, address_asked, frames_input, pcap_input, pcap_journa
 use report_command::{report_input, report_journal_input, series_input, series_of_journal_input};
 use run_command::run_input;
 use sched_storm::storm_input;
+use state_command::{StateEnd, state_input};
 use std::fs::File;
 use std::process::ExitCode;
 use std::rt::Files;
@@ -50,6 +52,10 @@ fn reads_of(name: &str, words: &ArgMatches) -> Reads {
             documents: Documents::Storms,
             journals,
         },
+        "state" => Reads {
+            documents: Documents::Both,
+            journals,
+        },
         _ => Reads {
             documents: Documents::Scripts,
             journals,
@@ -61,6 +67,7 @@ fn reads_of(name: &str, words: &ArgMatches) -> Reads {
 fn most_kept(name: &str, reads: Reads) -> usize {
     match reads.journals {
         _ if name == "check" => 0,
+        _ if name == "state" => KEPT_LINES,
         Journals::Asked => KEPT_LINES,
         _ => KEPT_DOCUMENT,
     }
@@ -245,6 +252,25 @@ fn report<R: Source>(
     ended(rt, outcome, given)
 }
 
+// The command `state`, which reads a journal where its input is one.
+#[inline(never)]
+fn state<R: Source>(
+    rt: &(impl Print + Eprint + AllocGlobal),
+    given: &mut Given<'_, '_, R>,
+) -> ExitCode {
+    match state_input(rt, &mut given.input, state_form_of(given.words)) {
+        Ok(end) => {
+            if let StateEnd::Bad(_) = end {
+                // It was read as a journal.
+                given.reads.journals = Journals::Asked;
+                advise(rt, TextFault::NotJson, given);
+            }
+            ExitCode::from(end.status())
+        }
+        Err(fault) => ended(rt, Err(fault), given),
+    }
+}
+
 // The command `storm`.
 #[inline(never)]
 fn storm<R: Source>(
@@ -297,6 +323,7 @@ where
         "audit" => audit(rt, &mut given),
         "check" => check(rt, given.input, words),
         "report" => report(rt, &mut given),
+        "state" => state(rt, &mut given),
         "storm" => storm(rt, &mut given),
         "pcap" => pcap(rt, &mut given),
         _ => {

@@ -13,4 +13,5 @@ returns c =
     let check = c.with_command-words-7.ensures (codes "mapsched") (codes "check") [] _ _ [] storm c.check_command.ensures in
     let pcap = c.with_command-words-8.ensures (codes "mapsched") (codes "pcap") [] _ _ [] check c.pcap_command.ensures in
     let live = c.with_command-words-9.ensures (codes "mapsched") (codes "live") [] _ _ [] pcap c.live_command.ensures in
-    c.with_command.ensures (codes "mapsched") (codes "bursts") [] _ _ [] live c.bursts_command.ensures
+    let bursts = c.with_command-words-10.ensures (codes "mapsched") (codes "bursts") [] _ _ [] live c.bursts_command.ensures in
+    c.with_command.ensures (codes "mapsched") (codes "state") [] _ _ [] bursts c.state_command.ensures

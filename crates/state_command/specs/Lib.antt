@@ -1,0 +1,5 @@
+pub mod States
+pub mod Kind
+pub mod Script
+pub mod History
+pub mod Journal
