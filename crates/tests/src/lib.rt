@@ -6,6 +6,8 @@ mod base;
 #[cfg(test)]
 mod flow_book_rows;
 #[cfg(test)]
+mod opening_rows;
+#[cfg(test)]
 mod periodic_rows;
 #[cfg(test)]
 mod readme_rows;

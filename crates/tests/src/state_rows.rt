@@ -1,9 +1,10 @@
-//! The state of a scheduler beside numbers that are worked out by hand.
+//! The state of a scheduler, and its text, beside numbers that are worked out by hand.
 
 use crate::base::BASE;
 use minislots::Stamp;
 use sched_calls::{Amount, BatchState, ChannelState, FlowSpec, Opportunity, Usage};
 use sched_history::{Auditor, Call, Scheduler};
+use state_text::{read_state, state_text};
 use std::alloc::{AllocGlobal, Global};
 use std::test::Fail;
 
@@ -136,5 +137,38 @@ fn a_state_has_each_level_at_the_last_grant(rt: HostRuntime) -> Result<(), Fail>
         assert!(rt; data.sustained.is_none() && data.peak == Some(1_308_160_000));
         assert!(rt; data.reserved == Some(12_288_000));
     }
+    Ok(())
+}
+
+// A flow waits for 1000 bytes, and a window of station maintenance for the next MAP.
+const WAITING: &str =
+    "{\"ack\":800,\"change\":null,\"entries\":4,\"flows\":[{\"asked\":1000,\"batches\":\
+    {\"end\":1000,\"first\":801,\"second\":null},\"flow\":{\"burst\":1600,\"kind\":\"best_effort\",\"priority\":3,\
+    \"rate\":64000},\"granted\":0,\"last\":null,\"peak\":null,\"place\":null,\"reserved\":null,\"sid\":17,\
+    \"sustained\":2048000000}],\"header\":{\"data_end\":0,\"data_start\":0,\"ranging_end\":0,\"ranging_start\":0,\
+    \"ucd_count\":1},\"next\":840,\"progress\":[800],\"reserves\":[{\"maps\":0,\"sid\":9,\"slots\":36,\
+    \"usage\":\"station\"}],\"ucd_count\":1}";
+
+// The text of a state has its keys in ascending order. It is read back, and a text without most members is not one.
+#[test]
+fn a_state_is_read_back_from_its_text(rt: HostRuntime) -> Result<(), Fail> {
+    let alloc = rt.alloc();
+    let calls = [
+        Call::Build { now: 760 },
+        Call::Admit(17, LIMITED),
+        ask(1000, 801),
+        Call::Reserve {
+            usage: STATION.usage,
+            slots: u32::from(STATION.slots),
+        },
+    ];
+    for state in told(alloc, &calls)? {
+        assert!(rt; state_text(alloc, &state)?.as_slice() == WAITING.as_bytes());
+    }
+    let Some(again) = read_state(alloc, WAITING.as_bytes())? else {
+        return Err("the text is one of a state".into());
+    };
+    assert!(rt; state_text(alloc, &again)?.as_slice() == WAITING.as_bytes());
+    assert!(rt; read_state(alloc, b"{\"ack\":800}")?.is_none());
     Ok(())
 }
