@@ -15,10 +15,8 @@ use Rattle.minislots.proofs.Bounds.{bounds_of}
 use Rattle.sched_calls.specs.declared.state.FlowState.{FlowState}
 use Rattle.sched_calls.specs.declared.spec.FlowSpec.{FlowSpec}
 use Rattle.sched_calls.specs.declared.state.PlaceState.{PlaceState}
-use Rattle.sched_calls.specs.FlowSpec.{interval_frames, periodic_slots, jitter_slots, grants_of, is_periodic, first_fault}
-use Rattle.sched_calls.specs.Sids.{AscendBy}
-use Rattle.periodic.specs.declared.placement.Spot.{Spot}
-use Rattle.periodic.specs.Placement.{Placed, offset_of, phase_of, starts_in, spot_at, spots_of, spots_in, IsPlacement}
+use Rattle.sched_calls.specs.FlowSpec.{interval_frames, grants_of, is_periodic, first_fault}
+use Rattle.periodic.specs.Placement.{Placed, offset_of, starts_in, spot_at, spots_of, spots_in, IsPlacement}
 use Rattle.periodic.specs.Placement.{AreLawfulStarts}
 use Rattle.periodic.specs.Table.{TableView, placed_grants, IsNotPlaced, with_placed, Ascend, IsApart, IsSoundPlaced, AreSound}
 use Rattle.periodic.specs.Carried.{placed_of, placed_in, LiesInInterval}

@@ -1,5 +1,5 @@
 -- The placed flows that the flows of a state stand for.
-use Rattle.std.specs.Prelude.{ℕ, ◌+◌, ◌*◌, ◌<◌, List, filter_map, option_map, Option, IfSome}
+use Rattle.std.specs.Prelude.{◌+◌, ◌*◌, ◌<◌, List, filter_map, option_map, Option, IfSome}
 use Rattle.minislots.specs.declared.config.Config.{Config}
 use Rattle.sched_calls.specs.declared.placement.Placement.{Placement}
 use Rattle.sched_calls.specs.declared.spec.FlowSpec.{FlowSpec}

@@ -11,7 +11,7 @@ use Rattle.map_build.specs.Spots.{ArePeriodicOf}
 use Rattle.sched_history.specs.Situation.{Situation, after, situation_of}
 use Rattle.sched_history.specs.History.{IsStep, IsLegal, IsLegalFrom}
 use Rattle.sched_history.specs.ChannelState.{state_in, state_of}
-use Rattle.restart_laws.specs.Carried.{carried}
+use Rattle.sched_history.specs.Carried.{carried}
 use Rattle.restart_laws.specs.Restart.{StepFrom, LegalFrom, IsEveryRestart}
 use Rattle.sched_history.proofs.situations.Leaving.{situation_of-push}
 use Rattle.sched_history.proofs.placements.PeriodicFlows.{ArePeriodicOf-legal}

@@ -26,7 +26,7 @@ use Rattle.sched_history.specs.Situation.{Situation, settles_in, spots_next, aft
 use Rattle.sched_history.specs.Opening.{opening}
 use Rattle.sched_history.specs.ChannelState.{state_in, state_of}
 use Rattle.sched_history.proofs.situations.Opening.{situation_of-open}
-use Rattle.restart_laws.specs.Carried.{carried}
+use Rattle.sched_history.specs.Carried.{carried}
 use Rattle.restart_laws.specs.Restart.{StepFrom, LegalFrom}
 
 -- nothing of a state is lost in what it stands for, with flows and Reserves of all kinds: it is the state of that

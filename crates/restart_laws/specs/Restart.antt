@@ -12,7 +12,7 @@ use Rattle.channel_states.specs.Possible.{IsPossible}
 use Rattle.sched_history.specs.Situation.{after}
 use Rattle.sched_history.specs.History.{IsStep, IsStepIn, IsLegal}
 use Rattle.sched_history.specs.ChannelState.{state_in, state_of}
-use Rattle.restart_laws.specs.Carried.{carried}
+use Rattle.sched_history.specs.Carried.{carried}
 
 -- The reply to a call may follow a state, and leaves this one: by the rules for histories, over flows with carried
 -- grants

@@ -6,4 +6,12 @@ pub mod GoingOn
 pub mod Places
 pub mod Quiet
 pub mod Sound
+pub mod Possible
+pub mod SoundFlows
+pub mod StepChanges
+pub mod FlowsKept
+pub mod PeriodicKept
+pub mod PeriodicSteps
+pub mod SoundStep
+pub mod SoundOpening
 pub mod Opening

@@ -3,6 +3,7 @@ pub use Rattle.minislots.specs.Units
 pub use Rattle.sched_calls.specs.FlowSpec
 pub use Rattle.flow_book.specs.Flows
 pub use Rattle.periodic.specs.Placement
+pub use Rattle.channel_states.specs.Possible
 pub use Rattle.map_build.specs.EachAfter
 pub use Rattle.map_build.specs.Plan
 pub use Rattle.map_build.specs.FrameMap
@@ -18,6 +19,7 @@ pub mod Refusal
 pub mod History
 pub use Rattle.sched_calls.specs.Reply
 pub mod ChannelState
+pub mod Carried
 pub mod Machine
 pub mod Answer
 pub mod Planned

@@ -17,6 +17,7 @@ mod changing;
 mod following;
 mod handing_over;
 mod met;
+mod opening;
 mod planned;
 mod present;
 mod recording;

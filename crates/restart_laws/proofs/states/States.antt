@@ -19,7 +19,7 @@ use Rattle.sched_history.specs.declared.scheduler.settling.Settling.{Settling}
 use Rattle.sched_history.specs.Situation.{Situation}
 use Rattle.sched_history.specs.ChannelState.{flow_state_in, reserve_state, state_in}
 use Rattle.flow_book.specs.Carried.{carried_flow}
-use Rattle.restart_laws.specs.Carried.{carried_reserve, carried}
+use Rattle.sched_history.specs.Carried.{carried_reserve, carried}
 use Rattle.restart_laws.proofs.Alike.{IsSteadyFlow, AlikeFlow, AlikeFlows, AlikeTables, IsSteady, IsAlike}
 use Rattle.restart_laws.proofs.maps.Lists.{made-alike, alike-turned, ascend-alike}
 use Rattle.restart_laws.proofs.flows.Carried.{carried-steady, carried-alike}

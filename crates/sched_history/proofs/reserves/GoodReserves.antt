@@ -61,7 +61,8 @@ length-aged (r ∷ rs) = cond_both (nat_lt (r.maps + 1) last_map) (record r { ma
 request-sid : (sid : ℕ) → bad_sid sid && not (is_sid_of_priorities sid || sid == broadcast) ≡ false → sid < 2 ^ 14
 request-sid sid good = grind (arith, nat_tests)
 
-usage-sid : (usage : Usage) → is_to_bad_sid usage ≡ false → sid_for usage < 2 ^ 14
+-- the SID of what may be asked for is one that an element may have
+pub usage-sid : (usage : Usage) → is_to_bad_sid usage ≡ false → sid_for usage < 2 ^ 14
 usage-sid Initial good = omega arith
 usage-sid (InitialTo sid) good = omega (arith, good_sid sid good)
 usage-sid (Station sid) good = omega (arith, good_sid sid good)
@@ -70,11 +71,11 @@ usage-sid Quiet good = omega arith
 usage-sid (DataTo sid) good = omega (arith, good_sid sid good)
 
 -- each of these Reserves may wait, and they are few
-abbrev AreReserves : Config → List Reserve → Type 0
+abbrev pub AreReserves : Config → List Reserve → Type 0
 AreReserves c rs = AllByRecursion (IsReserve c) rs × (length rs ≤ MAX_RESERVES)
 
 -- so it is of those that a MAP leaves
-left-reserves : (c : Config) (settles : Bool) (test : ℕ → Bool) (rs : List Reserve) → AreReserves c rs
+pub left-reserves : (c : Config) (settles : Bool) (test : ℕ → Bool) (rs : List Reserve) → AreReserves c rs
     → AreReserves c (if settles then rs else aged (left_by test rs))
 left-reserves c true test rs are = are
 left-reserves c false test rs are = (

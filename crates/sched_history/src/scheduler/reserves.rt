@@ -5,6 +5,7 @@ ghost use Rattle.std.specs.Prelude.{not, ◌&&◌, if◌then◌else◌, option_m
 ghost use Rattle.sched_calls.specs.declared.call.TheConstants.{MAX_RESERVES};
 ghost use Rattle.map_build.specs.declared.TheConstants.{MAX_WAITING};
 ghost use Rattle.sched_history.specs.ChannelState.{reserve_state};
+ghost use Rattle.sched_history.specs.Carried.{carried_reserve};
 ghost use Rattle.sched_history.specs.Reserves.{new_reserve, aged, left_of, unmarked, is_last, lapses_of};
 
 use map_build::MAX_WAITING;
@@ -97,6 +98,21 @@ impl Reserves {
         }
     }
 
+    // Those that a state tells.
+    pub(crate) fn carried(states: &[ReserveState]) -> Reserves
+        requires { length states.now ≤ MAX_RESERVES }
+        ensures { result ≡ map carried_reserve states.now }
+    {
+        let mut reserves = Reserves::none();
+        for state in states {
+            reserves.push(Reserve {
+                opportunity: state.opportunity,
+                maps: state.maps,
+            });
+        }
+        reserves
+    }
+
     // Whether there are as many as may be.
     pub(crate) fn is_full(&self) -> bool
         ensures { result ≡ nat_le MAX_RESERVES (length self.now) }
@@ -130,10 +146,18 @@ impl Reserves {
         requires { length self.old < MAX_RESERVES }
         ensures { self.new ≡ self.old ++ new_reserve opportunity ∷ [] }
     {
-        self.items[self.count] = Reserve {
+        self.push(Reserve {
             opportunity,
             maps: 0,
-        };
+        });
+    }
+
+    // This one behind the others.
+    fn push(&mut self, reserve: Reserve)
+        requires { length self.old < MAX_RESERVES }
+        ensures { self.new ≡ self.old ++ reserve ∷ [] }
+    {
+        self.items[self.count] = reserve;
         self.count += 1;
     }
 
