@@ -14,4 +14,6 @@ pub mod PeriodicKept
 pub mod PeriodicSteps
 pub mod SoundStep
 pub mod SoundOpening
+pub mod Since
 pub mod Opening
+pub mod Starting

@@ -1,11 +1,12 @@
 -- What a scheduler keeps of its history, before any call and after each kind of call.
-pub mod Opening
 pub mod Present
 pub mod Voices
 pub mod Changing
 pub mod ChangeMoves
 pub mod Sums
 pub mod Moves
+pub mod Kept
+pub mod Opening
 pub mod Recording
 pub mod Whole
 pub mod Building

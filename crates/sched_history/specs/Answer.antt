@@ -7,15 +7,16 @@ use Rattle.sched_calls.specs.declared.reply.Reply.{Reply}
 use Rattle.sched_calls.specs.declared.reply.Entry.{Entry}
 use Rattle.sched_calls.specs.declared.reply.Unrecorded.{Unrecorded}
 use Rattle.sched_calls.specs.declared.reply.Unrecorded.TheVariants.{HistoryFull, Memory}
-use Rattle.sched_history.specs.History.{IsStep}
+use Rattle.sched_calls.specs.declared.state.ChannelState.{ChannelState}
+use Rattle.sched_history.specs.Since.{IsStepSince}
 use Rattle.sched_history.specs.Machine.{Machine, MayLackMemory}
 use Rattle.sched_calls.specs.Reply.{Answer}
 
--- the call may get this answer after the history: a reply that is a step, where there is room for it
-abbrev pub MayGet : Config → List Entry → Call → Answer → Type 0
-MayGet c h call (Ok reply) = (length h < c.calls) × IsStep c h call reply
-MayGet c h call (Err HistoryFull) = c.calls ≤ length h
-MayGet c h call (Err Memory) = (length h < c.calls) × MayLackMemory c h call
+-- the call may get this answer after a state and the history since: a reply that is a step, where there is room for it
+abbrev pub MayGet : Config → ChannelState → List Entry → Call → Answer → Type 0
+MayGet c s h call (Ok reply) = (length h < c.calls) × IsStepSince c s h call reply
+MayGet c s h call (Err HistoryFull) = c.calls ≤ length h
+MayGet c s h call (Err Memory) = (length h < c.calls) × MayLackMemory c s h call
 
 -- the entry of a call that was recorded: the one seat of a run is seat 0
 abbrev pub recorded : ℕ → Call → Answer → List Entry
@@ -23,13 +24,14 @@ recorded ticket call (Ok reply) =
     record { stamp = record { seat = 0; ticket = ticket }; call = call; reply = reply } ∷ []
 recorded ticket call (Err unrecorded) = []
 
--- the calls, the first of which has this ticket, may get these answers one after the other, after the history
-abbrev pub MayGetEach : Config → List Entry → ℕ → List Call → List Answer → Type 0
-MayGetEach c h ticket [] [] = Unit {0}
-MayGetEach c h ticket [] (answer ∷ answers) = ⊥
-MayGetEach c h ticket (call ∷ calls) [] = ⊥
-MayGetEach c h ticket (call ∷ calls) (answer ∷ answers) =
-    MayGet c h call answer × MayGetEach c (h ++ recorded ticket call answer) (ticket + 1) calls answers
+-- the calls, the first of which has this ticket, may get these answers one after the other, after a state and the
+-- history since
+abbrev pub MayGetEach : Config → ChannelState → List Entry → ℕ → List Call → List Answer → Type 0
+MayGetEach c s h ticket [] [] = Unit {0}
+MayGetEach c s h ticket [] (answer ∷ answers) = ⊥
+MayGetEach c s h ticket (call ∷ calls) [] = ⊥
+MayGetEach c s h ticket (call ∷ calls) (answer ∷ answers) =
+    MayGet c s h call answer × MayGetEach c s (h ++ recorded ticket call answer) (ticket + 1) calls answers
 
 -- the entries of the calls that were recorded
 abbrev pub recorded_entries : ℕ → List Call → List Answer → List Entry
@@ -45,10 +47,10 @@ answer_in (Err unrecorded) = Err unrecorded
 
 -- from one state of a scheduler that keeps its whole history this call, with this answer, led to another
 pub record MakesCall (old new : Machine) (ticket : ℕ) (call : Call) (answer : Answer) : Type 0 where
-  pub may : MayGet old.config old.history call answer
+  pub may : MayGet old.config old.from old.history call answer
   pub state : new ≡ record old { history = old.history ++ recorded ticket call answer }
 
 -- from a state of a scheduler without entries these calls, with these answers, led to another, which keeps all entries
 pub record MakesCalls (old new : Machine) (calls : List Call) (answers : List Answer) : Type 0 where
-  pub each : MayGetEach old.config [] 0 calls answers
-  pub state : new ≡ record { config = old.config; history = recorded_entries 0 calls answers; handed = 0 }
+  pub each : MayGetEach old.config old.from [] 0 calls answers
+  pub state : new ≡ record old { history = recorded_entries 0 calls answers; handed = 0 }

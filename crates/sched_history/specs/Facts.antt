@@ -32,6 +32,7 @@ use Rattle.sched_calls.specs.declared.reply.Reply.{Reply}
 use Rattle.sched_calls.specs.declared.reply.Reply.TheVariants.{Taken, Built}
 use Rattle.sched_calls.specs.declared.reply.Entry.{Entry}
 use Rattle.sched_history.specs.Life.{flows_of, table_of}
+use Rattle.sched_history.specs.Situation.{Situation, settles_in}
 use Rattle.sched_history.specs.History.{demand_after}
 use Rattle.sched_history.specs.Time.{ack_after, next_after}
 use Rattle.sched_history.specs.Reserves.{header_after, met_after}
@@ -61,7 +62,13 @@ IsWithinReserved c f = KeepsCeiling c (reserved_of f.spec) (reserved_burst_of f.
 abbrev pub waits_next : Standing → Config → List Entry → List ℕ
 waits_next standing c h = map (λ f. f.sid) (filter (waits_so standing c (next_after c h)) (flows_of c h))
 
--- the same where the MAP of a reply starts that follows a history: none where it settles
+-- the same where the MAP of a reply starts that follows what is left: none where it settles
+abbrev pub waits_left : Standing → Config → Situation → Reply → List ℕ
+waits_left standing c x (Built m) =
+    if settles_in c x then [] else map (λ f. f.sid) (filter (waits_so standing c x.next) x.flows)
+waits_left standing c x reply = []
+
+-- so it is after a history
 abbrev pub waits_by : Standing → Config → List Entry → Reply → List ℕ
 waits_by standing c h (Built m) = if settles_after c h then [] else waits_next standing c h
 waits_by standing c h reply = []

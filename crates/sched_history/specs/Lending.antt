@@ -6,7 +6,7 @@ use Rattle.sched_calls.specs.declared.call.Call.{Call}
 use Rattle.sched_calls.specs.declared.reply.Reply.{Reply}
 use Rattle.sched_calls.specs.declared.reply.Entry.{Entry}
 use Rattle.sched_calls.specs.declared.reply.Unrecorded.{Unrecorded}
-use Rattle.sched_history.specs.History.{IsLegal}
+use Rattle.sched_history.specs.Since.{IsLegalSince}
 use Rattle.sched_history.specs.Machine.{Machine}
 use Rattle.sched_history.specs.Answer.{MakesCall, answer_in}
 use Rattle.sched_history.specs.contracts.scheduler.Scheduler.{the_row}
@@ -18,7 +18,7 @@ HasEntered old new (Err unrecorded) = new ≡ old
 
 -- so it is with the scheduler, whose history is legal
 abbrev pub Records : MutBor Machine → Result (Bor Entry) Unrecorded → Fml
-Records s r = Rests the_row s (λ new. HasEntered s.now new r × IsLegal new.config new.history)
+Records s r = Rests the_row s (λ new. HasEntered s.now new r × IsLegalSince new.config new.from new.history)
 
 -- the scheduler has made the call, with the reply that is shown
 abbrev pub Makes : MutBor Machine → ℕ → Call → Result (Bor Reply) Unrecorded → Fml

@@ -20,6 +20,7 @@ pub mod History
 pub use Rattle.sched_calls.specs.Reply
 pub mod ChannelState
 pub mod Carried
+pub mod Since
 pub mod Machine
 pub mod Answer
 pub mod Planned

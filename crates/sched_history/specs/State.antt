@@ -6,7 +6,6 @@ use Rattle.std.specs.List.{AllByRecursion}
 use Rattle.minislots.specs.declared.config.Config.{Config}
 use Rattle.minislots.specs.declared.stamp.Stamp.{Stamp}
 use Rattle.minislots.specs.Config.{IsLawful}
-use Rattle.map_codec.specs.WireMap.{IsWellFormed}
 use Rattle.flow_book.specs.Flows.{LiveFlow}
 use Rattle.flow_book.specs.Choice.{HasStartedBy}
 use Rattle.periodic.specs.Placement.{due_in}
@@ -17,19 +16,19 @@ use Rattle.sched_history.specs.declared.scheduler.state.State.{State}
 use Rattle.sched_history.specs.declared.scheduler.Scheduler.TheInside.{Inside}
 use Rattle.sched_calls.specs.declared.call.TheConstants.{MAX_RESERVES}
 use Rattle.sched_calls.specs.declared.call.Call.{Call}
-use Rattle.sched_calls.specs.declared.call.Call.TheVariants.{Build}
 use Rattle.sched_calls.specs.declared.reply.TheConstants.{MAX_WHOLE_HISTORY}
 use Rattle.sched_calls.specs.declared.reply.Reply.{Reply}
-use Rattle.sched_calls.specs.declared.reply.Reply.TheVariants.{Built}
 use Rattle.sched_calls.specs.declared.reply.Entry.{Entry}
+use Rattle.channel_states.specs.Possible.{IsPossible}
 use Rattle.sched_history.specs.Settling.{settles_by}
-use Rattle.sched_history.specs.Reserves.{IsReserve, waiting_in, left_behind, reserves_past}
-use Rattle.sched_history.specs.Situation.{Situation, situation_of, settles_in, spots_next, flows_by, after}
+use Rattle.sched_history.specs.Reserves.{IsReserve, waiting_in}
+use Rattle.sched_history.specs.Situation.{Situation, after}
+use Rattle.sched_history.specs.Since.{left_since, IsStepSince, IsLegalSince}
 use Rattle.sched_history.specs.Refusal.{most_bytes, most_ahead, last_clock, refusal_in}
-use Rattle.sched_history.specs.History.{AnswersIn, IsStep, IsLegal, IsNextMapIn}
+use Rattle.sched_history.specs.History.{AnswersIn}
 use Rattle.sched_history.specs.Planned.{PlannedBuild}
 use Rattle.sched_history.specs.Facts.{IsWithinAsked}
-use Rattle.sched_history.specs.Machine.{Machine, kept_of, TakesMemoryIn}
+use Rattle.sched_history.specs.Machine.{Machine, Account, kept_of, TakesMemoryIn}
 use Rattle.sched_calls.specs.Reply.{IsEncodable}
 
 -- the MAP of the next frame settles, by the fields
@@ -69,27 +68,27 @@ pub record IsStateAfter (s : State) (x : Situation) : Type 0 where
 abbrev pub machine_of : Inside → Machine
 machine_of a = record {
   config = a.state.config;
-  history = a.ledger;
-  handed = length a.ledger - length a.entries.items;
+  from = a.ledger.from;
+  history = a.ledger.history;
+  handed = length a.ledger.history - length a.entries.items;
 }
 
--- The fields are those after the whole history, which is legal and can be encoded; its last entries are kept, in
--- reserved room
+-- The state that was gone on from is possible, and the history since is legal; the fields are those after it, and they
+-- keep to bounds
+pub record IsKeptOf (s : State) (l : Account) : Type 0 where
+  pub possible : IsPossible s.config l.from
+  pub legal : IsLegalSince s.config l.from l.history
+  pub is_after : IsStateAfter s (left_since s.config l.from l.history)
+  pub bounded : IsBounded s.config s.book.flows s.next (l.from.entries + length l.history)
+
+-- The fields are those after the whole history, which can be encoded; its last entries are kept, in reserved room
 pub record IsSound (a : Inside) : Type 0 where
-  pub is_after : IsStateAfter a.state (situation_of a.state.config a.ledger)
-  pub bounded : IsBounded a.state.config a.state.book.flows a.state.next (length a.ledger)
-  pub legal : IsLegal a.state.config a.ledger
-  pub encodable : AllByRecursion (λ e. IsEncodable e.reply) a.ledger
-  pub few : length a.entries.items ≤ length a.ledger
+  pub past : IsKeptOf a.state a.ledger
+  pub encodable : AllByRecursion (λ e. IsEncodable e.reply) a.ledger.history
+  pub few : length a.entries.items ≤ length a.ledger.history
   pub kept : kept_of (machine_of a) ≡ a.entries.items
   pub within : length a.entries.items ≤ a.state.config.calls
   pub reserved : a.state.config.calls ≤ vec_capacity a.entries
-
--- The fields are those after the history, which is legal; they keep to bounds
-pub record IsKeptOf (s : State) (h : List Entry) : Type 0 where
-  pub is_after : IsStateAfter s (situation_of s.config h)
-  pub bounded : IsBounded s.config s.book.flows s.next (length h)
-  pub legal : IsLegal s.config h
 
 -- What is so of what every legal history leaves: its bounds; the flows are those that a channel may have, and the
 -- placed ones the periodic ones; the Reserves may wait, and are few
@@ -118,17 +117,6 @@ build_of now f = record {
   met = f.met;
 }
 
--- The MAP of the build is the lawful one of the next frame, and it is well formed; the flows and the Reserves are those
--- that it leaves
-pub record IsBuildAfter (c : Config) (x : Situation) (p : PlannedBuild) : Type 0 where
-  pub lawful : IsNextMapIn c x p.map
-  pub encodable : IsWellFormed p.map.wire
-  pub config : p.config ≡ c
-  pub before : p.before ≡ x.flows
-  pub flows : p.flows ≡ flows_by c (Build p.clock) (Built p.map) x.flows
-  pub reserves : left_behind (settles_in c x) p.met x.reserves
-      ≡ reserves_past c (settles_in c x) (spots_next c x) p.map.wire.elements x.reserves
-
 -- after something the call is open
 abbrev pub IsOpen : State → Call → Type 0
 IsOpen s call = (x : Situation) × IsOpenTo s call x
@@ -142,9 +130,9 @@ abbrev pub AnsweredOpen : State → Call → Reply → Type 0
 AnsweredOpen s call reply = (x : Situation) → IsOpenTo s call x → AnswersIn s.config x call reply
 
 -- The fields are those after the entries that were taken, which are legal and can be encoded
-pub record IsAuditorOf (s : State) (taken : List Entry) : Type 0 where
-  pub kept : IsKeptOf s taken
-  pub encodable : AllByRecursion (λ e. IsEncodable e.reply) taken
+pub record IsAuditorOf (s : State) (l : Account) : Type 0 where
+  pub kept : IsKeptOf s l
+  pub encodable : AllByRecursion (λ e. IsEncodable e.reply) l.history
 
 -- The reply is the answer to the call, its MAP is well formed, and the fields are what it leaves
 pub record IsFollowed (old new : State) (call : Call) (reply : Reply) (x : Situation) : Type 0 where
@@ -164,7 +152,7 @@ DiffersOpen s call reply = (x : Situation) → IsOpenTo s call x → AnswersIn s
 -- A call was answered and recorded
 pub record IsRecorded (old new : Machine) (stamp : Stamp) (call : Call) (reply : Reply) : Type 0 where
   pub entered : new ≡ record old { history = old.history ++ record { stamp = stamp; call = call; reply = reply } ∷ [] }
-  pub step : IsStep old.config old.history call reply
+  pub step : IsStepSince old.config old.from old.history call reply
   pub encodable : IsEncodable reply
   -- its entry is kept
   pub kept : new.handed < length new.history

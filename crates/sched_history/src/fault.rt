@@ -3,6 +3,17 @@
 use sched_calls::Refusal;
 use thiserror::Error;
 
+/// Why a state is not gone on from.
+#[derive(Clone, Copy, Debug, PartialEq, Eq, Error)]
+pub enum OpenFault {
+    /// It is no possible state of the channel.
+    #[error("impossible state")]
+    Impossible,
+    /// Memory ran out.
+    #[error("out of memory")]
+    Memory,
+}
+
 /// Why a build was not planned. Nothing is recorded.
 #[derive(Clone, Copy, Debug, PartialEq, Eq, Error)]
 pub enum PlanFault {

@@ -8,7 +8,7 @@ mod run;
 mod scheduler;
 
 pub use auditing::{Auditor, audit, lawful_reply};
-pub use fault::{AuditFault, JudgeFault, PlanFault};
+pub use fault::{AuditFault, JudgeFault, OpenFault, PlanFault};
 pub use flow_book::Standing;
 pub use map_build::{Met, meets_at};
 pub use run::{count_unrecorded, make_call, record_call};

@@ -20,10 +20,11 @@ fn stamp_at(place: usize) -> Stamp
     }
 }
 
-/// Makes the call at this place of a script, on a scheduler that keeps its whole history. The one seat of a run has the
-/// number 0.
+/// Makes the call at this place of a script, on a scheduler that keeps its whole history, before which there were no
+/// entries. The one seat of a run has the number 0.
 pub fn make_call(scheduler: &mut Scheduler, place: usize, call: Call) -> Result<Reply, Unrecorded>
-    requires { scheduler.old.handed ≡ 0 }
+    requires whole { scheduler.old.handed ≡ 0 }
+    requires first { scheduler.old.from.entries ≡ 0 }
     ensures made { MakesCall scheduler.old scheduler.new place call result }
     ensures line { HasLine result }
 {
@@ -37,7 +38,8 @@ pub fn record_call(
     place: usize,
     call: Call,
 ) -> Result<&Reply, Unrecorded>
-    requires { scheduler.old.handed ≡ 0 }
+    requires whole { scheduler.old.handed ≡ 0 }
+    requires first { scheduler.old.from.entries ≡ 0 }
     ensures* made { sem 𝓛 (Makes scheduler.entry place call result) }
     ensures line { HasLine (answer_in result) }
 {
@@ -47,10 +49,11 @@ pub fn record_call(
     }
 }
 
-/// How many of the calls of a run were not recorded.
+/// How many of the calls of a run were not recorded, by a scheduler that keeps its whole history.
 pub fn count_unrecorded(scheduler: &Scheduler, calls: &[Call]) -> usize
-    requires { length scheduler.now.history ≤ length calls.now }
+    requires whole { scheduler.now.handed ≡ 0 }
+    requires few { length scheduler.now.history ≤ length calls.now }
     ensures { result + length scheduler.now.history ≡ length calls.now }
 {
-    calls.len() - scheduler.recorded() as usize
+    calls.len() - scheduler.history().len()
 }

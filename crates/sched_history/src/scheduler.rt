@@ -4,11 +4,11 @@ ghost use Rattle.std.specs.Prelude.{◌≡◌, ◌≤◌, ◌↔◌, ◌++◌, �
 ghost use Rattle.std.specs.Prelude.{IfOk, OnOk, OnErr, IsErrOf};
 ghost use Rattle.std.specs.List.{AllByRecursion};
 ghost use Rattle.sched_history.specs.Facts.{FollowsAlways};
-ghost use Rattle.sched_history.specs.History.{IsStep, IsLegal};
-ghost use Rattle.sched_history.specs.Machine.{past_of, kept_of, is_full, MayLackMemory};
+ghost use Rattle.channel_states.specs.Possible.{IsPossible};
+ghost use Rattle.sched_history.specs.Machine.{left_now, kept_of, is_full, MayLackMemory};
+ghost use Rattle.sched_history.specs.Since.{start_state, refusal_since, IsStepSince, IsLegalSince};
 ghost use Rattle.sched_calls.specs.Reply.{IsEncodable};
 ghost use Rattle.sched_history.specs.Planned.{IsPlanAfter};
-ghost use Rattle.sched_history.specs.Refusal.{refusal_of};
 ghost use Rattle.sched_history.specs.State.{RecordsWithCopy};
 
 mod answering;
@@ -29,7 +29,8 @@ mod standing;
 mod state;
 mod states;
 
-use crate::fault::PlanFault;
+use channel_states::fault_of;
+use crate::fault::{OpenFault, PlanFault};
 use crate::ledger::Ledger;
 pub use backlog::Backlog;
 pub use handing_over::HandedOver;
@@ -37,14 +38,14 @@ use minislots::{Checked, Stamp};
 pub use planned::Planned;
 pub(crate) use present::Present;
 use recording::{newest, note};
-use sched_calls::{Call, Entry, MAX_WHOLE_HISTORY, Refusal, Reply, Unrecorded};
+use sched_calls::{Call, ChannelState, Entry, MAX_WHOLE_HISTORY, Refusal, Reply, Unrecorded};
 pub(crate) use state::State;
 use std::alloc::{AllocError, Global};
 use std::marker::Model;
 
-/// A scheduler with what it keeps of its history. Contracts see its configuration, its whole history, that is the list
-/// of all calls since it was opened, and how many entries at the front of that list were handed over. The others are
-/// kept. What is said of a history is said of the whole one; where nothing was handed over all of it is kept.
+/// A scheduler with what it keeps of its history. Contracts see its configuration, the state that it goes on from, its
+/// whole history, that is the list of all calls since it was opened, and how many entries at the front of that list were
+/// handed over. The others are kept. What is said of a history is said of the whole one; where nothing was handed over all of it is kept.
 #[derive(Drop)]
 pub struct Scheduler {
     state: State,
@@ -72,13 +73,53 @@ impl Scheduler {
 
     /// A scheduler that has recorded no call, with room to keep as many as its configuration says.
     pub fn open(alloc: Global, config: Checked) -> Result<Scheduler, AllocError>
-        ensures { IfOk result (λ s. s ≡ record { config = config; history = []; handed = 0 }) }
+        ensures { IfOk result (λ s.
+            s ≡ record { config = config; from = start_state config; history = []; handed = 0 }) }
     {
         let calls = config.calls() as usize;
         let state = State::open(alloc, config)?;
         Ok(Scheduler {
             state,
-            ledger: Ledger::empty(),
+            ledger: Ledger::open(&config),
+            entries: Vec::with_capacity(alloc, calls)?,
+        })
+    }
+
+    /// A scheduler that goes on from a state, with room to keep as many entries as its configuration says: every
+    /// possible state may be gone on from, and no other.
+    pub fn open_at(
+        alloc: Global,
+        config: Checked,
+        state: &ChannelState,
+    ) -> Result<Scheduler, OpenFault>
+        ensures opened { IfOk result (λ s.
+            s ≡ record { config = config; from = state.now; history = []; handed = 0 }) }
+        ensures possible { OnOk result (IsPossible config state.now) }
+        ensures impossible { IsErrOf result OpenFault.Impossible → IsPossible config state.now → ⊥ }
+    {
+        if fault_of(&config, state).is_some() {
+            return Err(OpenFault::Impossible);
+        }
+        match Scheduler::go_on(alloc, config, state) {
+            Ok(opened) => Ok(opened),
+            Err(_) => Err(OpenFault::Memory),
+        }
+    }
+
+    // A scheduler that goes on from a possible state.
+    fn go_on(
+        alloc: Global,
+        config: Checked,
+        state: &ChannelState,
+    ) -> Result<Scheduler, AllocError>
+        requires { IsPossible config state.now }
+        ensures { IfOk result (λ s.
+            s ≡ record { config = config; from = state.now; history = []; handed = 0 }) }
+    {
+        let calls = config.calls() as usize;
+        Ok(Scheduler {
+            state: State::open_at(alloc, config, state)?,
+            ledger: Ledger::open_at(state),
             entries: Vec::with_capacity(alloc, calls)?,
         })
     }
@@ -93,7 +134,7 @@ impl Scheduler {
         ensures recorded { IfOk result (λ reply. self.new ≡ record self.old {
           history = self.old.history ++ record { stamp = stamp; call = call; reply = reply } ∷ [];
         }) }
-        ensures step { IfOk result (λ reply. IsStep self.old.config self.old.history call reply) }
+        ensures step { IfOk result (λ reply. IsStepSince self.old.config self.old.from self.old.history call reply) }
         ensures encodable { IfOk result IsEncodable }
         ensures room { OnOk result (is_full self.old ≡ false) }
 
@@ -101,13 +142,13 @@ impl Scheduler {
         ensures err { OnErr result (self.new ≡ self.old) }
         ensures full { IsErrOf result Unrecorded.HistoryFull ↔ (is_full self.old ≡ true) }
         ensures memory { IsErrOf result Unrecorded.Memory
-            → MayLackMemory self.old.config self.old.history call }
+            → MayLackMemory self.old.config self.old.from self.old.history call }
 
-        // Where nothing was handed over the whole history is kept.
-        ensures whole { self.old.handed ≡ 0 →
+        // Where nothing was handed over, and there were no entries before, the whole history is kept.
+        ensures whole { self.old.handed ≡ 0 → self.old.from.entries ≡ 0 →
             is_full self.old ≡ nat_le self.old.config.calls (length self.old.history) }
 
-        ensures legal { IsLegal self.new.config self.new.history }
+        ensures legal { IsLegalSince self.new.config self.new.from self.new.history }
     {
         match self.make(stamp, call, true) {
             Ok(copy) => Ok(copy.unwrap()),
@@ -124,17 +165,17 @@ impl Scheduler {
         ensures entry { IfOk result (λ e.
             e.now ≡ record { stamp = stamp; call = call; reply = e.now.reply }) }
         ensures step { IfOk result (λ e.
-            IsStep self.old.config self.old.history call e.now.reply) }
+            IsStepSince self.old.config self.old.from self.old.history call e.now.reply) }
         ensures encodable { IfOk result (λ e. IsEncodable e.now.reply) }
         ensures room { OnOk result (is_full self.old ≡ false) }
 
         // Why it is not.
         ensures full { IsErrOf result Unrecorded.HistoryFull ↔ (is_full self.old ≡ true) }
         ensures memory { IsErrOf result Unrecorded.Memory
-            → MayLackMemory self.old.config self.old.history call }
+            → MayLackMemory self.old.config self.old.from self.old.history call }
 
-        // Where nothing was handed over the whole history is kept.
-        ensures whole { self.old.handed ≡ 0 →
+        // Where nothing was handed over, and there were no entries before, the whole history is kept.
+        ensures whole { self.old.handed ≡ 0 → self.old.from.entries ≡ 0 →
             is_full self.old ≡ nat_le self.old.config.calls (length self.old.history) }
     {
         self.make(stamp, call, false)?;
@@ -150,10 +191,10 @@ impl Scheduler {
         ensures err { OnErr result (self.new ≡ self.old) }
         ensures full { IsErrOf result Unrecorded.HistoryFull ↔ (is_full self.old ≡ true) }
         ensures memory { IsErrOf result Unrecorded.Memory
-            → MayLackMemory self.old.config self.old.history call }
-        ensures whole { self.old.handed ≡ 0 →
+            → MayLackMemory self.old.config self.old.from self.old.history call }
+        ensures whole { self.old.handed ≡ 0 → self.old.from.entries ≡ 0 →
             is_full self.old ≡ nat_le self.old.config.calls (length self.old.history) }
-        ensures legal { IsLegal self.new.config self.new.history }
+        ensures legal { IsLegalSince self.new.config self.new.from self.new.history }
     {
         if self.is_full() {
             return Err(Unrecorded::HistoryFull);
@@ -178,12 +219,12 @@ impl Scheduler {
 
         ensures full { IsErrOf result PlanFault.HistoryFull ↔ (is_full self.old ≡ true) }
         ensures refused { (refusal : Refusal) → IsErrOf result (PlanFault.Refused refusal) →
-            refusal_of self.old.config self.old.history (Call.Build now) ≡ Some refusal }
+            refusal_since self.old.config self.old.from self.old.history (Call.Build now) ≡ Some refusal }
         ensures memory { IsErrOf result PlanFault.Memory →
-            MayLackMemory self.old.config self.old.history (Call.Build now) }
+            MayLackMemory self.old.config self.old.from self.old.history (Call.Build now) }
 
-        // Where nothing was handed over the whole history is kept.
-        ensures whole { self.old.handed ≡ 0 →
+        // Where nothing was handed over, and there were no entries before, the whole history is kept.
+        ensures whole { self.old.handed ≡ 0 → self.old.from.entries ≡ 0 →
             is_full self.old ≡ nat_le self.old.config.calls (length self.old.history) }
     {
         if self.is_full() {
@@ -207,9 +248,9 @@ impl Scheduler {
           history = self.old.history
               ++ record { stamp = stamp; call = Call.Build planned.clock; reply = result } ∷ [];
         } }
-        ensures step { IsStep self.old.config self.old.history (Call.Build planned.clock) result }
+        ensures step { IsStepSince self.old.config self.old.from self.old.history (Call.Build planned.clock) result }
         ensures encodable { IsEncodable result }
-        ensures legal { IsLegal self.new.config self.new.history }
+        ensures legal { IsLegalSince self.new.config self.new.from self.new.history }
     {
         let Planned { clock, frame, copy } = planned;
         let call = Call::Build { now: clock };
@@ -221,9 +262,9 @@ impl Scheduler {
     // Whether as many entries are kept as the configuration allows, or there are as many as a whole history may have.
     fn is_full(&self) -> bool
         ensures value { result ≡ is_full self.now }
-        ensures whole { self.now.handed ≡ 0 →
+        ensures whole { self.now.handed ≡ 0 → self.now.from.entries ≡ 0 →
             is_full self.now ≡ nat_le self.now.config.calls (length self.now.history) }
-        ensures legal { IsLegal self.now.config self.now.history }
+        ensures legal { IsLegalSince self.now.config self.now.from self.now.history }
     {
         self.entries.len() >= self.state.config.calls() as usize
             || self.ledger.len() >= MAX_WHOLE_HISTORY
@@ -231,14 +272,14 @@ impl Scheduler {
 
     // The first refusal of a call.
     fn refusal_of(&self, call: Call) -> Option<Refusal>
-        ensures { result ≡ refusal_of self.now.config self.now.history call }
+        ensures { result ≡ refusal_since self.now.config self.now.from self.now.history call }
     {
         self.present().refusal_of(call)
     }
 
     // The present of the whole history.
     fn present(&self) -> Present<'_>
-        ensures { result ≡ past_of self.now }
+        ensures { result ≡ record { config = self.now.config; left = left_now self.now } }
     {
         Present {
             state: &self.state,
@@ -259,8 +300,9 @@ impl Scheduler {
     #[tactic(auto, using(crate::proofs::facts::FactsOf::facts_of))]
     pub fn history(&self) -> &[Entry]
         ensures value { result.now ≡ kept_of self.now }
-        ensures legal { IsLegal self.now.config self.now.history }
-        ensures facts { FollowsAlways self.now.config self.now.history }
+        ensures legal { IsLegalSince self.now.config self.now.from self.now.history }
+        ensures facts { self.now.from ≡ start_state self.now.config →
+            FollowsAlways self.now.config self.now.history }
         ensures encodable { AllByRecursion (λ e. IsEncodable e.reply) self.now.history }
         ensures within { length (kept_of self.now) ≤ self.now.config.calls }
         ensures front { self.now.handed ≤ length self.now.history }
@@ -272,8 +314,8 @@ impl Scheduler {
     #[tactic(auto, using(crate::proofs::facts::FactsOf::facts_of))]
     pub fn into_history(self) -> Vec<Entry>
         ensures value { result.items ≡ kept_of self }
-        ensures legal { IsLegal self.config self.history }
-        ensures facts { FollowsAlways self.config self.history }
+        ensures legal { IsLegalSince self.config self.from self.history }
+        ensures facts { self.from ≡ start_state self.config → FollowsAlways self.config self.history }
         ensures encodable { AllByRecursion (λ e. IsEncodable e.reply) self.history }
         ensures within { length (kept_of self) ≤ self.config.calls }
         ensures front { self.handed ≤ length self.history }

@@ -8,7 +8,7 @@ use Rattle.sched_calls.specs.declared.call.Call.{Call}
 use Rattle.sched_calls.specs.declared.reply.Reply.{Reply}
 use Rattle.sched_calls.specs.declared.reply.Entry.{Entry}
 use Rattle.sched_calls.specs.declared.reply.Unrecorded.TheVariants.{HistoryFull, Memory}
-use Rattle.sched_history.specs.History.{IsStep, IsLegal}
+use Rattle.sched_history.specs.Since.{IsStepSince, IsLegalSince}
 use Rattle.sched_history.specs.Machine.{Machine, MayLackMemory}
 use Rattle.sched_calls.specs.Reply.{Answer}
 use Rattle.sched_history.specs.Answer.{MayGet, recorded, recorded_entries, MakesCall, MakesCalls}
@@ -29,11 +29,11 @@ two_reasons e = cc
 -- a call that a scheduler answers as it promises
 pub MakesCall-from : (old new : Machine) (ticket : ℕ) (call : Call) (answer : Answer)
     → IfOk answer (λ reply. new ≡ record old { history = old.history ++ entry_of ticket call reply ∷ [] })
-    → IfOk answer (λ reply. IsStep old.config old.history call reply)
+    → IfOk answer (λ reply. IsStepSince old.config old.from old.history call reply)
     → OnOk answer (length old.history < old.config.calls)
     → OnErr answer (new ≡ old)
     → (IsErrOf answer HistoryFull ↔ (old.config.calls ≤ length old.history))
-    → (IsErrOf answer Memory → MayLackMemory old.config old.history call)
+    → (IsErrOf answer Memory → MayLackMemory old.config old.from old.history call)
     → MakesCall old new ticket call answer
 MakesCall-from old new ticket call (Ok reply) kept step room err full memory =
     record { may = (room, step); state = kept }
@@ -66,16 +66,17 @@ MakesCalls-push old mid new calls i d answers answer below makes one =
     let same_history : mid.history ≡ entries = ap (λ (m : Machine). m.history) makes.state in
     let same_handed : mid.handed ≡ 0 = MakesCalls-handed old mid before answers makes in
     let place : 0 + length before ≡ i = omega (arith, length-take i calls) in
-    let may : MayGet c entries call answer = rw (same_config, same_history) at one.may in
+    let same_from : mid.from ≡ old.from = ap (λ (m : Machine). m.from) makes.state in
+    let may : MayGet c old.from entries call answer = rw (same_config, same_from, same_history) at one.may in
     let pushed : recorded_entries 0 (before ++ call ∷ []) (answers ++ answer ∷ []) ≡ entries ++ recorded i call answer
-    = recorded_entries-push c [] 0 before answers call answer makes.each
+    = recorded_entries-push c old.from [] 0 before answers call answer makes.each
     ∙ ap (λ (n : ℕ). entries ++ recorded n call answer) place in
     rw (take_more calls i d below) (record {
-      each = MayGetEach-push c [] 0 before answers call answer makes.each may;
-      state = one.state ∙ rw (same_config, same_history, same_handed, pushed) refl;
+      each = MayGetEach-push c old.from [] 0 before answers call answer makes.each may;
+      state = one.state ∙ rw (same_config, same_from, same_history, same_handed, pushed) refl;
     })
 
 -- what all calls make is a legal history
 pub MakesCalls-legal : (old new : Machine) (calls : List Call) (answers : List Answer)
-    → MakesCalls old new calls answers → IsLegal old.config (recorded_entries 0 calls answers)
-MakesCalls-legal old new calls answers makes = IsLegal-answered old.config [] 0 calls answers tt makes.each
+    → MakesCalls old new calls answers → IsLegalSince old.config old.from (recorded_entries 0 calls answers)
+MakesCalls-legal old new calls answers makes = IsLegal-answered old.config old.from [] 0 calls answers tt makes.each

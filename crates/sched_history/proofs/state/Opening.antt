@@ -1,19 +1,26 @@
 -- The state before any call.
-use Rattle.std.proofs.Common.{◌≡◌, ℕ, zero, suc, ◌+◌, ◌≤◌, [], ◌∷◌, map, take, None, refl, sym, ap, ◌∙◌, arith, replicate}
+use Rattle.std.proofs.Common.{◌≡◌, ℕ, zero, suc, ◌+◌, ◌≤◌, [], ◌∷◌, map, take, None, refl, sym, ap, ◌∙◌, arith, replicate, subst}
 use Rattle.periodic.specs.Placement.{count_from}
 use Rattle.std.specs.Prelude.{vec_capacity}
 use Rattle.minislots.specs.declared.config.Config.{Config}
 use Rattle.minislots.specs.Config.{IsLawful}
 use Rattle.minislots.proofs.Bounds.{bounds_of}
 use Rattle.sched_calls.specs.Header.{header_of}
+use Rattle.sched_calls.specs.declared.state.ChannelState.{ChannelState}
+use Rattle.channel_states.specs.Possible.{IsPossible}
 use Rattle.sched_history.specs.declared.scheduler.state.State.{State}
 use Rattle.sched_history.specs.declared.scheduler.Scheduler.TheInside.{Inside}
 use Rattle.sched_history.specs.Life.{flows_of, table_of}
 use Rattle.sched_history.specs.Time.{next_after, progress_of}
 use Rattle.sched_history.specs.Situation.{situation_of}
-use Rattle.sched_history.specs.State.{IsStateAfter, IsSound}
+use Rattle.sched_history.specs.Carried.{carried}
+use Rattle.sched_history.specs.Machine.{Account}
+use Rattle.sched_history.specs.Since.{start_state}
+use Rattle.sched_history.specs.State.{IsStateAfter, IsKeptOf, IsSound}
 use Rattle.sched_history.proofs.lives.LiveFlows.{flows_of-none, table_of-none}
-use Rattle.sched_history.proofs.steps.Bounded.{IsBounded-legal}
+use Rattle.sched_history.proofs.situations.Opening.{situation_of-open}
+use Rattle.sched_history.proofs.situations.Starting.{IsPossible-start}
+use Rattle.sched_history.proofs.state.Kept.{IsKeptOf-left}
 
 -- no flow is live before any call
 pub flows_of-open : (c : Config) → flows_of c [] ≡ []
@@ -62,13 +69,24 @@ IsStateAfter-open s lawful book_config flows table_config placed next progress r
       last_ack = ack;
     }
 
--- A scheduler without entries is sound, where its fields stand for the empty history
-pub IsSound-open : (a : Inside) → IsStateAfter a.state (situation_of a.state.config []) → a.ledger ≡ [] → a.entries.items ≡ []
+-- What is kept of a possible state without entries since
+pub IsKeptOf-at : (s : State) (l : Account) (state : ChannelState) → l ≡ record { from = state; history = [] }
+    → IsPossible s.config state → IsStateAfter s (carried s.config state) → IsKeptOf s l
+IsKeptOf-at s l state is possible is_after =
+    rw is (IsKeptOf-left s (record { from = state; history = [] }) possible tt is_after)
+
+-- and of the state that no call has changed
+pub IsKeptOf-open : (s : State) (l : Account) → l ≡ record { from = start_state s.config; history = [] }
+    → IsStateAfter s (situation_of s.config []) → IsKeptOf s l
+IsKeptOf-open s l is is_after =
+    IsKeptOf-at s l (start_state s.config) is (IsPossible-start s.config is_after.lawful)
+    (subst (IsStateAfter s) (situation_of-open s.config) is_after)
+
+-- A scheduler without entries since a state is sound, where its fields are kept of it
+pub IsSound-opened : (a : Inside) → IsKeptOf a.state a.ledger → a.ledger.history ≡ [] → a.entries.items ≡ []
     → a.state.config.calls ≤ vec_capacity a.entries → IsSound a
-IsSound-open a is_after none empty reserved = record {
-  is_after = rw none is_after;
-  bounded = rw (none, is_after.flows, is_after.next) (IsBounded-legal a.state.config [] is_after.lawful tt);
-  legal = rw none tt;
+IsSound-opened a past none empty reserved = record {
+  past = past;
   encodable = rw none tt;
   few = rw empty (omega arith);
   kept = rw (none, empty) refl;

@@ -9,36 +9,35 @@ use Rattle.minislots.specs.declared.config.Config.{Config}
 use Rattle.minislots.specs.declared.stamp.Stamp.{Stamp}
 use Rattle.map_build.specs.declared.frame.PlannedFrame.{PlannedFrame}
 use Rattle.sched_history.specs.declared.scheduler.Scheduler.TheInside.{Inside}
+use Rattle.sched_history.specs.declared.scheduler.state.State.{State}
 use Rattle.sched_calls.specs.declared.call.Call.{Call}
 use Rattle.sched_calls.specs.declared.call.Call.TheVariants.{Build}
 use Rattle.sched_calls.specs.declared.reply.TheConstants.{MAX_WHOLE_HISTORY}
 use Rattle.sched_calls.specs.declared.reply.Reply.{Reply}
 use Rattle.sched_calls.specs.declared.reply.Entry.{Entry}
-use Rattle.sched_calls.specs.declared.reply.Reply.TheVariants.{Built}
-use Rattle.sched_history.specs.Situation.{Situation, situation_of, after}
-use Rattle.sched_history.specs.Refusal.{refusal_of}
-use Rattle.sched_history.specs.History.{IsNextMap, IsStep, IsLegal}
-use Rattle.sched_history.specs.Machine.{Machine, kept_of, is_full}
+use Rattle.sched_calls.specs.declared.state.ChannelState.{ChannelState}
+use Rattle.sched_history.specs.Situation.{Situation, after}
+use Rattle.sched_history.specs.Since.{left_since, refusal_since, IsStepSince, IsLegalSince}
+use Rattle.sched_history.specs.Machine.{Machine, Account, kept_of, left_now, count_of, is_full}
 use Rattle.sched_calls.specs.Reply.{IsEncodable}
-use Rattle.sched_history.specs.Planned.{PlannedBuild, IsPlanAfter}
-use Rattle.sched_history.specs.State.{IsStateAfter, machine_of, IsSound, IsKeptOf, IsOpenTo, IsBuildAfter, IsFollowed}
+use Rattle.sched_history.specs.Planned.{IsBuildAfter, IsPlanAfter}
+use Rattle.sched_history.specs.State.{IsStateAfter, machine_of, IsSound, IsKeptOf, IsOpenTo, IsFollowed}
 use Rattle.sched_history.specs.State.{IsRecorded, RecordsWithCopy, build_of}
 use Rattle.flow_book.proofs.Order.{all-push}
 use Rattle.sched_history.proofs.steps.Passed.{above, neither}
-use Rattle.sched_history.proofs.steps.Steps.{IsLegal-push, IsStep-answered}
-use Rattle.sched_history.proofs.steps.Bounded.{IsBounded-legal}
-use Rattle.sched_history.proofs.situations.Leaving.{situation_of-push}
-use Rattle.sched_history.proofs.situations.Sound.{IsSoundIn-legal}
+use Rattle.sched_history.proofs.steps.Steps.{IsStep-answered}
+use Rattle.sched_history.proofs.situations.Since.{IsLegalSince-push}
+use Rattle.sched_history.proofs.state.Kept.{with_entry, IsKeptOf-push, opens-kept}
 
 -- there is room for one entry more
 pub room-kept : (m : Machine) → is_full m ≡ false → length (kept_of m) < m.config.calls
 room-kept m room =
     above m.config.calls (length (kept_of m)) (neither (nat_le m.config.calls (length (kept_of m))) _ room).0
 
--- and the whole history may have one
-pub room-whole : (m : Machine) → is_full m ≡ false → length m.history < MAX_WHOLE_HISTORY
+-- and there may be one
+pub room-whole : (m : Machine) → is_full m ≡ false → count_of m < MAX_WHOLE_HISTORY
 room-whole m room =
-    above MAX_WHOLE_HISTORY (length m.history) (neither (nat_le m.config.calls (length (kept_of m))) _ room).1
+    above MAX_WHOLE_HISTORY (count_of m) (neither (nat_le m.config.calls (length (kept_of m))) _ room).1
 
 -- so the room for its entries has some left
 pub room-reserved : (a : Inside) (m : Machine) → machine_of a ≡ m → IsSound a → is_full m ≡ false
@@ -51,25 +50,28 @@ room-reserved a m is sound room =
 
 -- and the ledger can count one more
 pub room-ledger : (a : Inside) (m : Machine) → machine_of a ≡ m → is_full m ≡ false
-    → length a.ledger < MAX_WHOLE_HISTORY
+    → a.ledger.from.entries + length a.ledger.history < MAX_WHOLE_HISTORY
 room-ledger a m is room = room-whole (machine_of a) (subst (λ n. is_full n ≡ false) (sym is) room)
 
--- the same configuration with the same history, of which as many entries were handed over
-machine-same : (c d : Config) (h k : List Entry) (m n : ℕ) → c ≡ d → h ≡ k → m ≡ n
-    → ◌≡◌ {A = Machine} (record { config = c; history = h; handed = m })
-    (record { config = d; history = k; handed = n })
-machine-same c d h k m n config history handed = rw (config, history, handed) refl
+-- the same configuration with the same history since the same state, of which as many entries were handed over
+machine-same : (c d : Config) (l k : Account) (m n : ℕ) → c ≡ d → l ≡ k → m ≡ n
+    → ◌≡◌ {A = Machine} (record { config = c; from = l.from; history = l.history; handed = m })
+    (record { config = d; from = k.from; history = k.history; handed = n })
+machine-same c d l k m n config account handed = rw (config, account, handed) refl
 
 -- A scheduler with one entry more
-module _ (a b : Inside) (e : Entry) (sound : IsSound a) (ledger : b.ledger ≡ a.ledger ++ e ∷ [])
+module _ (a b : Inside) (e : Entry) (sound : IsSound a) (ledger : b.ledger ≡ with_entry a.ledger e)
     (items : b.entries.items ≡ a.entries.items ++ e ∷ []) where
-  more : length b.ledger ≡ length a.ledger + 1
-  more = ap length ledger ∙ length_push a.ledger e
+  history : b.ledger.history ≡ a.ledger.history ++ e ∷ []
+  history = ap (λ (l : Account). l.history) ledger
+
+  more : length b.ledger.history ≡ length a.ledger.history + 1
+  more = ap length history ∙ length_push a.ledger.history e
 
   more-kept : length b.entries.items ≡ length a.entries.items + 1
   more-kept = ap length items ∙ length_push a.entries.items e
 
-  few-push : length b.entries.items ≤ length b.ledger
+  few-push : length b.entries.items ≤ length b.ledger.history
   few-push = omega (arith, more, more-kept, sound.few)
 
   -- has handed over as many
@@ -77,113 +79,54 @@ module _ (a b : Inside) (e : Entry) (sound : IsSound a) (ledger : b.ledger ≡ a
   handed-push = omega (arith, more, more-kept)
 
   -- has not handed over that one
-  pub kept-more : (machine_of b).handed < length b.ledger
+  pub kept-more : (machine_of b).handed < length b.ledger.history
   kept-more = omega (arith, more, more-kept, few-push)
 
   -- and keeps it
   kept-push : kept_of (machine_of b) ≡ b.entries.items
   kept-push =
-      ap (λ n. drop n b.ledger) handed-push
-      ∙ ap (drop (machine_of a).handed) ledger
-      ∙ drop-append-le (machine_of a).handed a.ledger (e ∷ []) (omega (arith, sound.few))
+      ap (λ n. drop n b.ledger.history) handed-push
+      ∙ ap (drop (machine_of a).handed) history
+      ∙ drop-append-le (machine_of a).handed a.ledger.history (e ∷ []) (omega (arith, sound.few))
       ∙ ap (λ h. h ++ e ∷ []) sound.kept
       ∙ sym items
 
   -- is sound, where its fields stand for the history
   pub IsSound-push : vec_capacity b.entries ≡ vec_capacity a.entries → b.state.config ≡ a.state.config
-      → is_full (machine_of a) ≡ false → IsStep a.state.config a.ledger e.call e.reply → IsEncodable e.reply
-      → IsStateAfter b.state (after a.state.config (situation_of a.state.config a.ledger) e.call e.reply) → IsSound b
+      → is_full (machine_of a) ≡ false → IsStepSince a.state.config a.ledger.from a.ledger.history e.call e.reply
+      → IsEncodable e.reply
+      → IsStateAfter b.state (after a.state.config (left_now (machine_of a)) e.call e.reply) → IsSound b
   IsSound-push capacity config room step encodable left =
-      let legal : IsLegal a.state.config (a.ledger ++ e ∷ []) =
-      IsLegal-push a.state.config a.ledger e sound.legal step in
       let below : length a.entries.items < a.state.config.calls =
       subst (λ h. length h < a.state.config.calls) sound.kept (room-kept (machine_of a) room) in
-      let is_after : IsStateAfter b.state (situation_of a.state.config (a.ledger ++ e ∷ [])) =
-      subst (IsStateAfter b.state) (sym (situation_of-push a.state.config a.ledger e step)) left in
       record {
-        is_after = subst (λ c. IsStateAfter b.state (situation_of c b.ledger)) (sym config)
-            (subst (λ h. IsStateAfter b.state (situation_of a.state.config h)) (sym ledger) is_after);
-        bounded = rw (ledger, is_after.flows, is_after.next, config)
-            (IsBounded-legal a.state.config (a.ledger ++ e ∷ []) sound.is_after.lawful legal);
-        legal = rw (config, ledger) legal;
-        encodable = rw ledger (all-push (λ x. IsEncodable x.reply) a.ledger e sound.encodable encodable);
+        past = subst (IsKeptOf b.state) (sym ledger)
+            (IsKeptOf-push a.state b.state a.ledger e sound.past config step left);
+        encodable = rw history (all-push (λ x. IsEncodable x.reply) a.ledger.history e sound.encodable encodable);
         few = few-push;
         kept = kept-push;
         within = rw config (omega (arith, more-kept, below));
-        reserved = rw (config, capacity) sound.reserved;
+        reserved = rw (config, capacity) (sound.reserved);
       }
-
--- what is kept is that of the history
-pub IsKeptOf-inside : (a : Inside) → IsSound a → IsKeptOf a.state a.ledger
-IsKeptOf-inside a sound = record { is_after = sound.is_after; bounded = sound.bounded; legal = sound.legal }
-
--- a stamp
-first_stamp : Stamp
-first_stamp = record { seat = 0; ticket = 0 }
-
--- a lawful build that no test refuses is a step
-step-planned : (m : Machine) (p : PlannedBuild) → refusal_of m.config m.history (Build p.clock) ≡ None
-    → IsNextMap m.config m.history p.map → IsStep m.config m.history (Build p.clock) (Built p.map)
-step-planned m p unrefused lawful =
-    IsStep-answered m.config m.history (Build p.clock) (Built p.map) unrefused (p.map, lawful, refl)
-
--- a planned build may follow
-pub IsBuildAfter-planned : (m : Machine) (p : PlannedBuild) → IsPlanAfter m p
-    → IsBuildAfter m.config (situation_of m.config m.history) p
-IsBuildAfter-planned m p fits =
-    let e : Entry = record { stamp = first_stamp; call = Build p.clock; reply = Built p.map } in
-    let left = situation_of-push m.config m.history e (step-planned m p fits.unrefused fits.lawful) in
-    record {
-      lawful = fits.lawful;
-      encodable = fits.encodable;
-      config = fits.config;
-      before = fits.before;
-      flows = fits.flows first_stamp ∙ ap (λ (x : Situation). x.flows) left;
-      reserves = fits.reserves first_stamp ∙ ap (λ (x : Situation). x.reserves) left;
-    }
-
--- and is planned, where there is room and no test refuses it
-pub IsPlanAfter-build : (m : Machine) (p : PlannedBuild) → is_full m ≡ false
-    → refusal_of m.config m.history (Build p.clock) ≡ None
-    → IsBuildAfter m.config (situation_of m.config m.history) p → IsPlanAfter m p
-IsPlanAfter-build m p room unrefused fits =
-    let left : (stamp : Stamp)
-    → situation_of m.config (m.history ++ record { stamp = stamp; call = Build p.clock; reply = Built p.map } ∷ [])
-    ≡ after m.config (situation_of m.config m.history) (Build p.clock) (Built p.map) =
-    λ stamp. situation_of-push m.config m.history (record { stamp = stamp; call = Build p.clock; reply = Built p.map })
-    (step-planned m p unrefused fits.lawful) in
-    record {
-      room = room;
-      unrefused = unrefused;
-      lawful = fits.lawful;
-      encodable = fits.encodable;
-      config = fits.config;
-      before = fits.before;
-      flows = λ stamp. fits.flows ∙ sym (ap (λ (x : Situation). x.flows) (left stamp));
-      reserves = λ stamp. fits.reserves ∙ sym (ap (λ (x : Situation). x.reserves) (left stamp));
-    }
 
 -- a call that no test refuses is open
 pub IsOpenTo-inside : (a : Inside) (m : Machine) → machine_of a ≡ m → (call : Call) → IsSound a
-    → is_full m ≡ false → refusal_of m.config m.history call ≡ None
-    → IsOpenTo a.state call (situation_of a.state.config a.ledger)
-IsOpenTo-inside a m is call sound room none = record {
-  is_after = sound.is_after;
-  sound = IsSoundIn-legal a.state.config a.ledger sound.is_after.lawful sound.legal;
-  short = room-ledger a m is room;
-  unrefused = subst (λ n. refusal_of n.config n.history call ≡ None) (sym is) none;
-}
+    → is_full m ≡ false → refusal_since m.config m.from m.history call ≡ None
+    → IsOpenTo a.state call (left_now (machine_of a))
+IsOpenTo-inside a m is call sound room none =
+    opens-kept a.state a.ledger call sound.past (room-ledger a m is room)
+    (subst (λ n. refusal_since n.config n.from n.history call ≡ None) (sym is) none)
 
 -- A scheduler in which a call is entered with its reply
 module _ (a b : Inside) (stamp : Stamp) (call : Call) (reply : Reply) (sound : IsSound a)
-    (counted : b.ledger ≡ a.ledger ++ record { stamp = stamp; call = call; reply = reply } ∷ [])
+    (counted : b.ledger ≡ with_entry a.ledger (record { stamp = stamp; call = call; reply = reply }))
     (entered : b.entries.items ≡ a.entries.items ++ record { stamp = stamp; call = call; reply = reply } ∷ []) where
   abbrev told : Entry
   told = record { stamp = stamp; call = call; reply = reply }
 
   -- has recorded it, where it is a step
   pub IsRecorded-step : (m : Machine) → machine_of a ≡ m → b.state.config ≡ a.state.config
-      → IsStep a.state.config a.ledger call reply → IsEncodable reply
+      → IsStepSince a.state.config a.ledger.from a.ledger.history call reply → IsEncodable reply
       → IsRecorded m (machine_of b) stamp call reply
   IsRecorded-step m is config step encodable =
       subst (λ n. IsRecorded n (machine_of b) stamp call reply) is (record {
@@ -195,10 +138,10 @@ module _ (a b : Inside) (stamp : Stamp) (call : Call) (reply : Reply) (sound : I
       })
 
   -- So it is with the answer to an open call
-  module _ (opens : IsOpenTo a.state call (situation_of a.state.config a.ledger))
-      (answered : IsFollowed a.state b.state call reply (situation_of a.state.config a.ledger)) where
-    step-is : IsStep a.state.config a.ledger call reply
-    step-is = IsStep-answered a.state.config a.ledger call reply opens.unrefused answered.answers
+  module _ (opens : IsOpenTo a.state call (left_now (machine_of a)))
+      (answered : IsFollowed a.state b.state call reply (left_now (machine_of a))) where
+    step-is : IsStepSince a.state.config a.ledger.from a.ledger.history call reply
+    step-is = IsStep-answered a.state.config (left_now (machine_of a)) call reply opens.unrefused answered.answers
 
     pub IsRecorded-answered : (m : Machine) → machine_of a ≡ m → IsRecorded m (machine_of b) stamp call reply
     IsRecorded-answered m is = IsRecorded-step m is answered.config step-is answered.encodable
@@ -214,17 +157,16 @@ module _ (a b : Inside) (m : Machine) (is : machine_of a ≡ m) (stamp : Stamp) 
     (reply : Reply) (sound : IsSound a) (fits : IsPlanAfter m (build_of now frame))
     (answered : (n : ℕ) (x : Situation) → IsOpenTo a.state (Build n) x
     → IsBuildAfter a.state.config x (build_of n frame) → IsFollowed a.state b.state (Build n) reply x)
-    (counted : b.ledger ≡ a.ledger ++ record { stamp = stamp; call = Build now; reply = reply } ∷ [])
+    (counted : b.ledger ≡ with_entry a.ledger (record { stamp = stamp; call = Build now; reply = reply }))
     (entered : b.entries.items
     ≡ a.entries.items ++ record { stamp = stamp; call = Build now; reply = reply } ∷ []) where
-  pub opens-planned : IsOpenTo a.state (Build now) (situation_of a.state.config a.ledger)
+  pub opens-planned : IsOpenTo a.state (Build now) (left_now (machine_of a))
   opens-planned = IsOpenTo-inside a m is (Build now) sound fits.room fits.unrefused
 
-  answers-planned : IsFollowed a.state b.state (Build now) reply (situation_of a.state.config a.ledger)
+  answers-planned : IsFollowed a.state b.state (Build now) reply (left_now (machine_of a))
   answers-planned =
-      answered now (situation_of a.state.config a.ledger) opens-planned
-      (subst (λ n. IsBuildAfter n.config (situation_of n.config n.history) (build_of now frame)) (sym is)
-      (IsBuildAfter-planned m (build_of now frame) fits))
+      answered now (left_now (machine_of a)) opens-planned
+      (subst (λ (n : Machine). IsBuildAfter n.config (left_now n) (build_of now frame)) (sym is) fits.build)
 
   -- is sound
   pub IsSound-planned : vec_capacity b.entries ≡ vec_capacity a.entries → IsSound b
@@ -239,11 +181,12 @@ module _ (a b : Inside) (m : Machine) (is : machine_of a ≡ m) (stamp : Stamp) 
 
 -- a recorded call keeps the history legal
 pub IsLegal-recorded : (old new : Machine) (stamp : Stamp) (call : Call) (reply : Reply)
-    → IsLegal old.config old.history
-    → IsRecorded old new stamp call reply → IsLegal new.config new.history
+    → IsLegalSince old.config old.from old.history
+    → IsRecorded old new stamp call reply → IsLegalSince new.config new.from new.history
 IsLegal-recorded old new stamp call reply legal recorded =
     rw (recorded.entered)
-    (IsLegal-push old.config old.history (record { stamp = stamp; call = call; reply = reply }) legal recorded.step)
+    (IsLegalSince-push old.config old.from old.history (record { stamp = stamp; call = call; reply = reply }) legal
+    recorded.step)
 
 -- the entry of a recorded call is the last of those that are kept
 pub kept-newest : (a : Inside) (old new : Machine) (stamp : Stamp) (call : Call) (reply : Reply)

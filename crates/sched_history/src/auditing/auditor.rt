@@ -1,20 +1,21 @@
 //! A history that is judged entry by entry.
 
-ghost use Rattle.std.specs.Prelude.{◌≡◌, ◌<◌, ◌≤◌, ◌↔◌, ◌++◌, ◌∷◌, [], true, false, length};
+ghost use Rattle.std.specs.Prelude.{◌≡◌, ◌+◌, ◌<◌, ◌≤◌, ◌↔◌, ◌++◌, ◌∷◌, [], true, false, length};
 ghost use Rattle.std.specs.Prelude.{ℕ, slice_index, IfOk, IfErr, OnOk, OnErr, IsErrOf};
 ghost use Rattle.sched_calls.specs.declared.call.TheConstants.{MAX_RESERVES};
 ghost use Rattle.sched_calls.specs.declared.reply.TheConstants.{MAX_WHOLE_HISTORY};
-ghost use Rattle.sched_history.specs.ChannelState.{state_of};
-ghost use Rattle.sched_history.specs.Facts.{waits_by};
-ghost use Rattle.sched_history.specs.History.{IsStep, IsLegal};
+ghost use Rattle.channel_states.specs.Possible.{IsPossible};
+ghost use Rattle.sched_history.specs.ChannelState.{state_in};
+ghost use Rattle.sched_history.specs.Facts.{waits_left};
+ghost use Rattle.sched_history.specs.History.{IsStepIn};
 ghost use Rattle.sched_calls.specs.Reply.{IsEncodable};
-ghost use Rattle.sched_history.specs.Machine.{MayLackMemory};
-ghost use Rattle.sched_history.specs.Reserves.{met_after, reserves_of};
+ghost use Rattle.sched_history.specs.Machine.{MayLackMemory, left_after};
+ghost use Rattle.sched_history.specs.Since.{start_state, met_left, IsStepSince, IsLegalSince};
 ghost use Rattle.sched_history.specs.State.{IsKeptOf};
-ghost use Rattle.sched_history.specs.Time.{progress_of};
 
 use super::sameness::is_refused;
-use crate::fault::JudgeFault;
+use channel_states::fault_of;
+use crate::fault::{JudgeFault, OpenFault};
 use crate::ledger::Ledger;
 use crate::scheduler::{Present, Scheduler, State};
 use flow_book::Standing;
@@ -26,7 +27,7 @@ use std::marker::Model;
 
 /// Judges a history entry by entry: whether each reply is one that the scheduler may give after the entries before it,
 /// as [`audit`](crate::audit) judges a list. It keeps no entry, so however many it takes, its memory is that of what a
-/// scheduler keeps beside its history. Contracts see the configuration and the entries that it took, which are legal.
+/// scheduler keeps beside its history. Contracts see the configuration, the state that it goes on from, and the entries that it took, which are legal.
 #[derive(Drop)]
 pub struct Auditor {
     alloc: Global,
@@ -41,7 +42,11 @@ impl Model for Auditor {
 
     ghost use Rattle.sched_history.specs.State.{IsAuditorOf};
 
-    ghost view = { λ a. record { config = a.state.config; history = a.ledger } };
+    ghost view = { λ a. record {
+      config = a.state.config;
+      from = a.ledger.from;
+      history = a.ledger.history;
+    } };
 
     ghost invariant = { λ a. IsAuditorOf a.state a.ledger };
 }
@@ -49,13 +54,38 @@ impl Model for Auditor {
 impl Auditor {
     /// An auditor under this configuration, which has taken no entry.
     pub fn open(alloc: Global, config: Checked) -> Result<Auditor, AllocError>
-        ensures { IfOk result (λ a. a ≡ record { config = config; history = [] }) }
+        ensures { IfOk result (λ a. a ≡ record { config = config; from = start_state config; history = [] }) }
     {
         Ok(Auditor {
             alloc,
             state: State::open(alloc, config)?,
-            ledger: Ledger::empty(),
+            ledger: Ledger::open(&config),
         })
+    }
+
+    /// An auditor that goes on from a state, and has taken no entry: every possible state may be gone on from, and no
+    /// other.
+    pub fn open_at(
+        alloc: Global,
+        config: Checked,
+        state: &ChannelState,
+    ) -> Result<Auditor, OpenFault>
+        ensures opened { IfOk result (λ a.
+            a ≡ record { config = config; from = state.now; history = [] }) }
+        ensures possible { OnOk result (IsPossible config state.now) }
+        ensures impossible { IsErrOf result OpenFault.Impossible → IsPossible config state.now → ⊥ }
+    {
+        if fault_of(&config, state).is_some() {
+            return Err(OpenFault::Impossible);
+        }
+        match State::open_at(alloc, config, state) {
+            Ok(opened) => Ok(Auditor {
+                alloc,
+                state: opened,
+                ledger: Ledger::open_at(state),
+            }),
+            Err(_) => Err(OpenFault::Memory),
+        }
     }
 
     /// Judges one entry, and takes it where its reply may follow the entries that were taken: every lawful placement
@@ -67,18 +97,18 @@ impl Auditor {
         ensures taken { OnOk result
             (self.new ≡ record self.old { history = self.old.history ++ entry.now ∷ [] }) }
         ensures step { OnOk result
-            (IsStep self.old.config self.old.history entry.now.call entry.now.reply) }
+            (IsStepSince self.old.config self.old.from self.old.history entry.now.call entry.now.reply) }
 
         // Else nothing changes.
         ensures err { OnErr result (self.new ≡ self.old) }
         ensures full { IsErrOf result JudgeFault.Full
-            ↔ (MAX_WHOLE_HISTORY ≤ length self.old.history) }
+            ↔ (MAX_WHOLE_HISTORY ≤ self.old.from.entries + length self.old.history) }
         ensures illegal { IsErrOf result JudgeFault.Illegal →
-            IsStep self.old.config self.old.history entry.now.call entry.now.reply → ⊥ }
+            IsStepSince self.old.config self.old.from self.old.history entry.now.call entry.now.reply → ⊥ }
         ensures memory { IsErrOf result JudgeFault.Memory →
-            MayLackMemory self.old.config self.old.history entry.now.call }
+            MayLackMemory self.old.config self.old.from self.old.history entry.now.call }
 
-        ensures legal { IsLegal self.new.config self.new.history }
+        ensures legal { IsLegalSince self.new.config self.new.from self.new.history }
     {
         if self.ledger.len() >= MAX_WHOLE_HISTORY {
             return Err(JudgeFault::Full);
@@ -97,10 +127,10 @@ impl Auditor {
     /// may follow them: nothing where it has none. What is met goes by where elements begin, and never by what they
     /// say, so it is asked before [`Auditor::judge`] takes the entry.
     pub fn met(&self, entry: &Entry) -> Result<Vec<Met>, AllocError>
-        ensures met { IfOk result (λ met. IsStep self.now.config self.now.history entry.now.call entry.now.reply
-            → met.items ≡ met_after self.now.config self.now.history entry.now.reply) }
+        ensures met { IfOk result (λ met. IsStepIn self.now.config (left_after self.now) entry.now.call entry.now.reply
+            → met.items ≡ met_left self.now.config (left_after self.now) entry.now.reply) }
         ensures memory { OnErr result
-            (MayLackMemory self.now.config self.now.history entry.now.call) }
+            (MayLackMemory self.now.config self.now.from self.now.history entry.now.call) }
     {
         let present = Present {
             state: &self.state,
@@ -113,10 +143,11 @@ impl Auditor {
     /// order, where its reply may follow: none where it has no MAP, or one that settles. It is asked before
     /// [`Auditor::judge`] takes the entry.
     pub fn who_waits(&self, entry: &Entry, standing: Standing) -> Result<Vec<u16>, AllocError>
-        ensures waits { IfOk result (λ sids. IsStep self.now.config self.now.history entry.now.call entry.now.reply
-            → sids.items ≡ waits_by standing self.now.config self.now.history entry.now.reply) }
+        ensures waits { IfOk result
+            (λ sids. IsStepIn self.now.config (left_after self.now) entry.now.call entry.now.reply
+            → sids.items ≡ waits_left standing self.now.config (left_after self.now) entry.now.reply) }
         ensures memory { OnErr result
-            (MayLackMemory self.now.config self.now.history entry.now.call) }
+            (MayLackMemory self.now.config self.now.from self.now.history entry.now.call) }
     {
         let present = Present {
             state: &self.state,
@@ -127,7 +158,7 @@ impl Auditor {
 
     /// How many Reserves are open, that is neither met nor lapsed, after the entries that were taken.
     pub fn open_reserves(&self) -> u64
-        ensures value { result ≡ length (reserves_of self.now.config self.now.history) }
+        ensures value { result ≡ length (left_after self.now).reserves }
         ensures most { result ≤ MAX_RESERVES }
     {
         self.state.reserves.len() as u64
@@ -137,7 +168,7 @@ impl Auditor {
     /// the entries that were taken. Those behind them say nothing.
     pub fn progress(&self) -> [u64; 16]
         ensures { (receiver : ℕ) → receiver < self.now.config.receivers → slice_index result receiver
-            ≡ progress_of self.now.config receiver self.now.history }
+            ≡ slice_index (left_after self.now).progress receiver }
     {
         let progress = self.state.progress;
         progress
@@ -145,7 +176,7 @@ impl Auditor {
 
     /// The state after the entries that were taken: what the replies after them depend on.
     pub fn state(&self) -> Result<ChannelState, AllocError>
-        ensures { IfOk result (λ state. state ≡ state_of self.now.config self.now.history) }
+        ensures { IfOk result (λ state. state ≡ state_in self.now.config (left_after self.now)) }
     {
         let present = Present {
             state: &self.state,
@@ -156,9 +187,9 @@ impl Auditor {
 
     /// How many entries were taken.
     pub fn taken(&self) -> u64
-        ensures value { result ≡ length self.now.history }
+        ensures value { result ≡ self.now.from.entries + length self.now.history }
         ensures most { result ≤ MAX_WHOLE_HISTORY }
-        ensures legal { IsLegal self.now.config self.now.history }
+        ensures legal { IsLegalSince self.now.config self.now.from self.now.history }
     {
         self.ledger.len()
     }
@@ -168,6 +199,7 @@ impl Auditor {
     pub fn into_scheduler(self) -> Result<Scheduler, Auditor>
         ensures resumed { IfOk result (λ s. s ≡ record {
           config = self.config;
+          from = self.from;
           history = self.history;
           handed = length self.history;
         }) }
@@ -185,8 +217,8 @@ impl Auditor {
     /// [`MAX_WHOLE_HISTORY`]. A periodic flow may have other lawful placements than the one in the reply; every other
     /// call has this reply alone.
     pub fn reply_to(self, call: Call) -> Result<Reply, AllocError>
-        requires { length self.history < MAX_WHOLE_HISTORY }
-        ensures step { IfOk result (IsStep self.config self.history call) }
+        requires { self.from.entries + length self.history < MAX_WHOLE_HISTORY }
+        ensures step { IfOk result (IsStepSince self.config self.from self.history call) }
         ensures encodable { IfOk result IsEncodable }
     {
         let Auditor {
@@ -207,18 +239,20 @@ fn follows(
     entry: &Entry,
 ) -> Result<bool, AllocError>
     requires kept { IsKeptOf state.old ledger.now }
-    requires short { length ledger.now < MAX_WHOLE_HISTORY }
+    requires short { ledger.now.from.entries + length ledger.now.history < MAX_WHOLE_HISTORY }
     ensures step { IfOk result (λ is. is ≡ true →
-        IsStep state.old.config ledger.now entry.now.call entry.now.reply) }
+        IsStepSince state.old.config ledger.now.from ledger.now.history entry.now.call entry.now.reply) }
     ensures kept { IfOk result
-        (λ is. is ≡ true → IsKeptOf state.new (ledger.now ++ entry.now ∷ [])) }
+        (λ is. is ≡ true → IsKeptOf state.new
+        (record ledger.now { history = ledger.now.history ++ entry.now ∷ [] })) }
     ensures config { IfOk result (λ is. is ≡ true → state.new.config ≡ state.old.config) }
     ensures encodable { IfOk result (λ is. is ≡ true → IsEncodable entry.now.reply) }
     ensures no_step { IfOk result (λ is. is ≡ false →
-        IsStep state.old.config ledger.now entry.now.call entry.now.reply → ⊥) }
+        IsStepSince state.old.config ledger.now.from ledger.now.history entry.now.call entry.now.reply → ⊥) }
     ensures same { IfOk result (λ is. is ≡ false → state.new ≡ state.old) }
     ensures err { OnErr result (state.new ≡ state.old) }
-    ensures memory { OnErr result (MayLackMemory state.old.config ledger.now entry.now.call) }
+    ensures memory { OnErr result
+        (MayLackMemory state.old.config ledger.now.from ledger.now.history entry.now.call) }
 {
     let present = Present { state, ledger };
     match present.refusal_of(entry.call) {
@@ -235,8 +269,8 @@ fn reply_after(
     call: Call,
 ) -> Result<Reply, AllocError>
     requires kept { IsKeptOf state.old ledger.now }
-    requires short { length ledger.now < MAX_WHOLE_HISTORY }
-    ensures step { IfOk result (IsStep state.old.config ledger.now call) }
+    requires short { ledger.now.from.entries + length ledger.now.history < MAX_WHOLE_HISTORY }
+    ensures step { IfOk result (IsStepSince state.old.config ledger.now.from ledger.now.history call) }
     ensures encodable { IfOk result IsEncodable }
 {
     let present = Present { state, ledger };

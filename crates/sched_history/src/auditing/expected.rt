@@ -4,6 +4,7 @@ ghost use Rattle.std.specs.Prelude.{◌≡◌, ◌<◌, ◌≤◌, length, IfOk}
 ghost use Rattle.sched_calls.specs.declared.reply.TheConstants.{MAX_ENTRIES};
 ghost use Rattle.sched_history.specs.History.{IsStep, IsLegal};
 ghost use Rattle.sched_calls.specs.Reply.{IsEncodable};
+ghost use Rattle.sched_history.specs.Since.{start_state};
 
 use super::Auditor;
 use crate::fault::JudgeFault;
@@ -33,7 +34,8 @@ pub fn lawful_reply(
 fn auditor_after(alloc: Global, config: &Checked, entries: &[Entry]) -> Result<Auditor, AllocError>
     requires few { length entries.now ≤ MAX_ENTRIES }
     requires legal { IsLegal config.now entries.now }
-    ensures { IfOk result (λ a. a ≡ record { config = config.now; history = entries.now }) }
+    ensures { IfOk result (λ a.
+        a ≡ record { config = config.now; from = start_state config.now; history = entries.now }) }
 {
     let mut auditor = Auditor::open(alloc, *config)?;
     for index in 0..entries.len() {

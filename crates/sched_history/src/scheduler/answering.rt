@@ -5,7 +5,8 @@ ghost use Rattle.sched_calls.specs.FlowSpec.{is_periodic};
 ghost use Rattle.sched_calls.specs.Reply.{OwnsMemory};
 ghost use Rattle.sched_history.specs.Situation.{Situation};
 ghost use Rattle.sched_history.specs.Time.{IsFirstStart};
-ghost use Rattle.sched_history.specs.State.{IsOpenTo, IsOpen, IsBuildAfter, FollowsOpen, TakesMemoryOpen, IsFollowed, build_of};
+ghost use Rattle.sched_history.specs.Planned.{IsBuildAfter};
+ghost use Rattle.sched_history.specs.State.{IsOpenTo, IsOpen, FollowsOpen, TakesMemoryOpen, IsFollowed, build_of};
 ghost use Rattle.sched_history.specs.Audit.{is_told};
 
 use super::refusing::is_periodic;

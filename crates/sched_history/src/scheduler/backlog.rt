@@ -2,7 +2,7 @@
 
 ghost use Rattle.std.specs.Prelude.{◌≡◌};
 ghost use Rattle.sched_history.specs.Backlog.{backlog_of};
-ghost use Rattle.sched_history.specs.Life.{flows_of};
+ghost use Rattle.sched_history.specs.Machine.{left_now};
 
 use super::Scheduler;
 use flow_book::Book;
@@ -35,7 +35,7 @@ fn backlog_of(book: &Book) -> Backlog
 impl Scheduler {
     /// What waits for data grants after the whole history.
     pub fn backlog(&self) -> Backlog
-        ensures { result ≡ backlog_of (flows_of self.now.config self.now.history) }
+        ensures { result ≡ backlog_of (left_now self.now).flows }
     {
         backlog_of(&self.state.book)
     }

@@ -1,9 +1,9 @@
 //! How what is kept of a history is handed over, so that a scheduler goes on without end.
 
-ghost use Rattle.std.specs.Prelude.{◌≡◌, ◌≤◌, ◌↔◌, [], length, vec_capacity, IfOk, IfErr, OnOk, OnErr, IsOk};
+ghost use Rattle.std.specs.Prelude.{◌≡◌, ◌+◌, ◌≤◌, ◌↔◌, [], length, vec_capacity, IfOk, IfErr, OnOk, OnErr, IsOk};
 ghost use Rattle.std.specs.List.{AllByRecursion};
 ghost use Rattle.sched_calls.specs.declared.reply.TheConstants.{MAX_WHOLE_HISTORY};
-ghost use Rattle.sched_history.specs.Machine.{kept_of};
+ghost use Rattle.sched_history.specs.Machine.{kept_of, count_of};
 ghost use Rattle.sched_calls.specs.Reply.{IsEncodable};
 
 use super::Scheduler;
@@ -21,18 +21,18 @@ pub struct HandedOver {
 }
 
 impl Scheduler {
-    /// How many calls were recorded: the length of the whole history.
+    /// How many calls were recorded, with those of the state that was gone on from: the length of the whole history.
     pub fn recorded(&self) -> u64
-        ensures value { result ≡ length self.now.history }
+        ensures value { result ≡ count_of self.now }
         ensures most { result ≤ MAX_WHOLE_HISTORY }
     {
         self.ledger.len()
     }
 
-    /// How many of them were handed over or forgotten. The first entry that is kept has this place in the whole
+    /// How many of them were handed over or forgotten, or are those of the state. The first entry that is kept has this place in the whole
     /// history.
     pub fn handed_over(&self) -> u64
-        ensures { result ≡ self.now.handed }
+        ensures { result ≡ self.now.from.entries + self.now.handed }
     {
         self.recorded() - self.entries.len() as u64
     }
@@ -42,7 +42,7 @@ impl Scheduler {
     /// is not empty, or has less room, comes back, and nothing has changed.
     pub fn hand_over(&mut self, room: Vec<Entry>) -> Result<HandedOver, Vec<Entry>>
         ensures entries { IfOk result (λ given. given.entries.items ≡ kept_of self.old) }
-        ensures first { IfOk result (λ given. given.first ≡ self.old.handed) }
+        ensures first { IfOk result (λ given. given.first ≡ self.old.from.entries + self.old.handed) }
         ensures encodable { IfOk result
             (λ given. AllByRecursion (λ e. IsEncodable e.reply) given.entries.items) }
         ensures handed { OnOk result

@@ -3,9 +3,10 @@
 ghost use Rattle.std.specs.Prelude.{◌≡◌, ◌/◌, [], IfOk, OnErr, if◌then◌else◌};
 ghost use Rattle.periodic.specs.Placement.{due_in};
 ghost use Rattle.map_build.specs.Reading.{met_in};
-ghost use Rattle.sched_history.specs.History.{IsStep};
-ghost use Rattle.sched_history.specs.Machine.{MayLackMemory};
-ghost use Rattle.sched_history.specs.Reserves.{waiting_in, met_after};
+ghost use Rattle.sched_history.specs.History.{IsStepIn};
+ghost use Rattle.sched_history.specs.Machine.{MayLackMemoryIn};
+ghost use Rattle.sched_history.specs.Reserves.{waiting_in};
+ghost use Rattle.sched_history.specs.Since.{met_left};
 ghost use Rattle.sched_history.specs.State.{settles_next};
 
 use super::present::Present;
@@ -36,10 +37,10 @@ impl State {
 impl<'a> Present<'a> {
     // What the MAP of an entry meets, where its reply may follow.
     pub(crate) fn met(&self, alloc: Global, entry: &Entry) -> Result<Vec<Met>, AllocError>
-        ensures met { IfOk result (λ met. IsStep self.now.config self.now.history entry.now.call entry.now.reply
-            → met.items ≡ met_after self.now.config self.now.history entry.now.reply) }
+        ensures met { IfOk result (λ met. IsStepIn self.now.config self.now.left entry.now.call entry.now.reply
+            → met.items ≡ met_left self.now.config self.now.left entry.now.reply) }
         ensures memory { OnErr result
-            (MayLackMemory self.now.config self.now.history entry.now.call) }
+            (MayLackMemoryIn self.now.config self.now.left entry.now.call) }
     {
         let Call::Build { .. } = entry.call else {
             return Ok(Vec::new(alloc));

@@ -1,8 +1,9 @@
 //! A build that is planned: all that it fills is made, and nothing is changed.
 
 ghost use Rattle.std.specs.Prelude.{◌≡◌};
-ghost use Rattle.sched_history.specs.Reserves.{reserves_of, lapses_with};
-ghost use Rattle.sched_history.specs.Settling.{settles_after};
+ghost use Rattle.sched_history.specs.Machine.{left_now};
+ghost use Rattle.sched_history.specs.Reserves.{lapses_with};
+ghost use Rattle.sched_history.specs.Situation.{settles_in};
 
 use super::Scheduler;
 use map_build::PlannedFrame;
@@ -47,8 +48,8 @@ impl Scheduler {
     /// How many of the Reserves that wait lapse with a planned build: its MAP does not meet them, and is the last one
     /// that might have. None where it settles.
     pub fn lapses(&self, planned: &Planned) -> u64
-        ensures { result ≡ lapses_with (settles_after self.now.config self.now.history) planned.now.met
-            (reserves_of self.now.config self.now.history) }
+        ensures { result ≡ lapses_with (settles_in self.now.config (left_now self.now)) planned.now.met
+            (left_now self.now).reserves }
     {
         if self.state.settles() {
             return 0;

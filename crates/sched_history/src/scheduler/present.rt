@@ -4,7 +4,8 @@ use super::state::State;
 use crate::ledger::Ledger;
 use std::marker::Model;
 
-// What is kept of a history, and the entries that it is kept of. Contracts see the configuration and the entries.
+// What is kept of a history, and the entries that it is kept of. Contracts see the configuration, and what is left
+// under it.
 #[derive(Drop)]
 pub(crate) struct Present<'a> {
     pub(crate) state: &'a State,
@@ -12,12 +13,16 @@ pub(crate) struct Present<'a> {
 }
 
 impl<'a> Model for Present<'a> {
-    ghost use Rattle.sched_history.specs.Machine.{Past};
+    ghost use Rattle.sched_history.specs.Machine.{Left};
+    ghost use Rattle.sched_history.specs.Since.{left_since};
     ghost use Rattle.sched_history.specs.State.{IsKeptOf};
 
-    ghost Value = { Past };
+    ghost Value = { Left };
 
-    ghost view = { λ p. record { config = p.state.now.config; history = p.ledger.now } };
+    ghost view = { λ p. record {
+      config = p.state.now.config;
+      left = left_since p.state.now.config p.ledger.now.from p.ledger.now.history;
+    } };
 
     ghost invariant = { λ p. IsKeptOf p.state.now p.ledger.now };
 }

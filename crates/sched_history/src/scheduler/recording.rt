@@ -1,11 +1,10 @@
 //! How a call is recorded with its answer.
 
-ghost use Rattle.std.specs.Prelude.{◌≡◌, ◌<◌, ◌++◌, ◌∷◌, [], List, false, None, length, IfOk, OnErr, vec_capacity};
+ghost use Rattle.std.specs.Prelude.{◌≡◌, ◌+◌, ◌<◌, ◌++◌, ◌∷◌, [], List, false, None, length, IfOk, OnErr, vec_capacity};
 ghost use Rattle.sched_calls.specs.declared.reply.Entry.{Entry as Recorded};
 ghost use Rattle.sched_calls.specs.declared.reply.TheConstants.{MAX_WHOLE_HISTORY};
-ghost use Rattle.sched_history.specs.Refusal.{refusal_of};
-ghost use Rattle.sched_history.specs.History.{IsStep};
-ghost use Rattle.sched_history.specs.Machine.{is_full, TakesMemory};
+ghost use Rattle.sched_history.specs.Machine.{left_now, is_full, TakesMemoryIn};
+ghost use Rattle.sched_history.specs.Since.{refusal_since, IsStepSince};
 ghost use Rattle.sched_history.specs.State.{IsRecorded, RecordsWithCopy};
 
 use super::Scheduler;
@@ -23,10 +22,12 @@ pub(super) fn note(
     call: Call,
     reply: Reply,
 )
-    requires few { length ledger.old < MAX_WHOLE_HISTORY }
+    requires few { ledger.old.from.entries + length ledger.old.history < MAX_WHOLE_HISTORY }
     requires room { length entries.old.items < vec_capacity entries.old }
     ensures counted { ledger.new
-        ≡ ledger.old ++ record { stamp = stamp; call = call; reply = reply } ∷ [] }
+        ≡ record ledger.old {
+          history = ledger.old.history ++ record { stamp = stamp; call = call; reply = reply } ∷ [];
+        } }
     ensures items { entries.new.items
         ≡ entries.old.items ++ record { stamp = stamp; call = call; reply = reply } ∷ [] }
     ensures capacity { vec_capacity entries.new ≡ vec_capacity entries.old }
@@ -49,7 +50,7 @@ impl Scheduler {
     // Refuses a call.
     pub(super) fn refuse(&mut self, stamp: Stamp, call: Call, refusal: Refusal)
         requires room { is_full self.old ≡ false }
-        requires step { IsStep self.old.config self.old.history call (Reply.Refused refusal) }
+        requires step { IsStepSince self.old.config self.old.from self.old.history call (Reply.Refused refusal) }
         ensures { IsRecorded self.old self.new stamp call (Reply.Refused refusal) }
     {
         let reply = Reply::Refused(refusal);
@@ -65,10 +66,10 @@ impl Scheduler {
         twice: bool,
     ) -> Result<Option<Reply>, AllocError>
         requires room { is_full self.old ≡ false }
-        requires unrefused { refusal_of self.old.config self.old.history call ≡ None }
+        requires unrefused { refusal_since self.old.config self.old.from self.old.history call ≡ None }
         ensures recorded { IfOk result (RecordsWithCopy self.old self.new stamp call twice) }
         ensures err { OnErr result (self.new ≡ self.old) }
-        ensures memory { OnErr result (TakesMemory self.old.config self.old.history call) }
+        ensures memory { OnErr result (TakesMemoryIn self.old.config (left_now self.old) call) }
     {
         let alloc = *self.entries.allocator();
         let answer = self.state.answer(alloc, call, twice)?;

@@ -3,13 +3,11 @@
 ghost use Rattle.std.specs.Prelude.{◌≡◌, ◌<◌, ◌≤◌, ◌+◌, Some, true, ◌∷◌, [], false, not, nat_lt, nat_le, ◌==◌, ◌||◌, ◌&&◌, option_map};
 ghost use Rattle.std.specs.Prelude.{slice_index};
 ghost use Rattle.sched_calls.specs.FlowSpec.{is_periodic, is_kind_of, grants_of, takes_requests};
+ghost use Rattle.flow_book.specs.Book.{Ascend, without};
 ghost use Rattle.flow_book.specs.Flows.{flow_of};
-ghost use Rattle.sched_history.specs.Life.{flows_of};
-ghost use Rattle.sched_history.specs.Time.{next_after};
-ghost use Rattle.sched_history.specs.Situation.{situation_of};
-ghost use Rattle.sched_history.specs.Refusal.{bad_sid, is_to_bad_sid, is_live, is_silent, periodic_grants, refused_if};
-ghost use Rattle.sched_history.specs.Refusal.{first_of, refusal_of, is_bad_amount, is_great_amount, is_wide};
-ghost use Rattle.sched_history.specs.Refusal.{is_unsolicited, is_short_of_poll, other_grants};
+ghost use Rattle.sched_history.specs.Refusal.{bad_sid, is_to_bad_sid, is_live, is_silent, interval_grants, refused_if};
+ghost use Rattle.sched_history.specs.Refusal.{first_of, refusal_in, is_bad_amount, is_great_amount, is_wide};
+ghost use Rattle.sched_history.specs.Refusal.{is_unsolicited, is_short_of_poll};
 
 use super::present::Present;
 use minislots::{Checked, MAX_ASK};
@@ -131,7 +129,7 @@ impl<'a> Present<'a> {
     // The first refusal of a call.
     #[inline(always)]
     pub(crate) fn refusal_of(&self, call: Call) -> Option<Refusal>
-        ensures { result ≡ refusal_of self.now.config self.now.history call }
+        ensures { result ≡ refusal_in self.now.config self.now.left call }
     {
         match call {
             Call::Admit(sid, spec) => self.refuse_admission(sid, spec),
@@ -165,22 +163,23 @@ impl<'a> Present<'a> {
     // The parameters of the live flow with this SID.
     fn spec_of(&self, sid: u16) -> Option<FlowSpec>
         ensures { result ≡ option_map (λ f. f.spec)
-            (flow_of sid (flows_of self.now.config self.now.history)) }
+            (flow_of sid self.now.left.flows) }
     {
         self.state.book.flow(sid)
     }
 
     // The grants per interval of the live flows.
     fn periodic_grants(&self) -> usize
-        ensures value { result ≡ periodic_grants self.now.config self.now.history }
+        ensures value { result ≡ interval_grants self.now.left.flows }
         ensures most { result ≤ 2560 }
+        ensures ascend { Ascend self.now.left.flows }
     {
         self.state.table.grants()
     }
 
     // The refusal of an admission, but that there is no place.
     fn refuse_admission(&self, sid: u16, spec: FlowSpec) -> Option<Refusal>
-        ensures { result ≡ refusal_of self.now.config self.now.history (Call.Admit sid spec) }
+        ensures { result ≡ refusal_in self.now.config self.now.left (Call.Admit sid spec) }
     {
         if is_bad_sid(sid) {
             Some(Refusal::BadSid)
@@ -198,7 +197,7 @@ impl<'a> Present<'a> {
     // The refusal of an admission where the grants per interval would be too many.
     fn refuse_periodic(&self, spec: FlowSpec) -> Option<Refusal>
         ensures { result ≡ refused_if (is_periodic spec && nat_lt self.now.config.periodic
-            (periodic_grants self.now.config self.now.history + grants_of spec)) Refusal.PeriodicFull }
+            (interval_grants self.now.left.flows + grants_of spec)) Refusal.PeriodicFull }
     {
         let grants = self.periodic_grants() + usize::from(spec.grants());
         if is_periodic(spec) && grants > self.state.config.periodic() as usize {
@@ -210,7 +209,7 @@ impl<'a> Present<'a> {
 
     // The refusal of other parameters, but that there is no place.
     fn refuse_change(&self, sid: u16, spec: FlowSpec) -> Option<Refusal>
-        ensures { result ≡ refusal_of self.now.config self.now.history (Call.Change sid spec) }
+        ensures { result ≡ refusal_in self.now.config self.now.left (Call.Change sid spec) }
     {
         if is_bad_sid(sid) {
             return Some(Refusal::BadSid);
@@ -230,8 +229,8 @@ impl<'a> Present<'a> {
     // The grants per interval of the live flows but of the one with these parameters.
     fn other_grants(&self, sid: u16, old: FlowSpec) -> usize
         requires present { option_map (λ f. f.spec)
-            (flow_of sid (flows_of self.now.config self.now.history)) ≡ Some old }
-        ensures value { result ≡ other_grants self.now.config sid self.now.history }
+            (flow_of sid self.now.left.flows) ≡ Some old }
+        ensures value { result ≡ interval_grants (without sid self.now.left.flows) }
         ensures most { result ≤ 2560 }
     {
         self.periodic_grants() - usize::from(old.grants())
@@ -240,9 +239,9 @@ impl<'a> Present<'a> {
     // The refusal of other parameters in the place of the present ones where the grants per interval would be too many.
     fn refuse_grants(&self, sid: u16, old: FlowSpec, spec: FlowSpec) -> Option<Refusal>
         requires present { option_map (λ f. f.spec)
-            (flow_of sid (flows_of self.now.config self.now.history)) ≡ Some old }
+            (flow_of sid self.now.left.flows) ≡ Some old }
         ensures { result ≡ refused_if (is_periodic spec && nat_lt self.now.config.periodic
-            (other_grants self.now.config sid self.now.history + grants_of spec)) Refusal.PeriodicFull }
+            (interval_grants (without sid self.now.left.flows) + grants_of spec)) Refusal.PeriodicFull }
     {
         let grants = self.other_grants(sid, old) + usize::from(spec.grants());
         if is_periodic(spec) && grants > self.state.config.periodic() as usize {
@@ -254,7 +253,7 @@ impl<'a> Present<'a> {
 
     // The refusal of a rest.
     fn refuse_rest(&self, sid: u16) -> Option<Refusal>
-        ensures { result ≡ refusal_of self.now.config self.now.history (Call.Rest sid) }
+        ensures { result ≡ refusal_in self.now.config self.now.left (Call.Rest sid) }
     {
         if is_bad_sid(sid) {
             return Some(Refusal::BadSid);
@@ -269,7 +268,7 @@ impl<'a> Present<'a> {
 
     // The refusal of a call for an unsolicited flow.
     fn refuse_voice(&self, sid: u16) -> Option<Refusal>
-        ensures { result ≡ refusal_of self.now.config self.now.history (Call.Wake sid) }
+        ensures { result ≡ refusal_in self.now.config self.now.left (Call.Wake sid) }
     {
         if is_bad_sid(sid) {
             return Some(Refusal::BadSid);
@@ -285,7 +284,7 @@ impl<'a> Present<'a> {
     fn refuse_unknown(&self, sid: u16) -> Option<Refusal>
         ensures { result ≡ first_of (
             refused_if (bad_sid sid) Refusal.BadSid ∷
-            refused_if (not (is_live sid (flows_of self.now.config self.now.history))) Refusal.NoFlow ∷ []) }
+            refused_if (not (is_live sid self.now.left.flows)) Refusal.NoFlow ∷ []) }
     {
         if is_bad_sid(sid) {
             Some(Refusal::BadSid)
@@ -300,8 +299,8 @@ impl<'a> Present<'a> {
     fn refuse_asker(&self, sid: u16) -> Option<Refusal>
         ensures { result ≡ first_of (
             refused_if (bad_sid sid) Refusal.BadSid ∷
-            refused_if (not (is_live sid (flows_of self.now.config self.now.history))) Refusal.NoFlow ∷
-            refused_if (is_silent sid (flows_of self.now.config self.now.history)) Refusal.NotAsking ∷ []) }
+            refused_if (not (is_live sid self.now.left.flows)) Refusal.NoFlow ∷
+            refused_if (is_silent sid self.now.left.flows) Refusal.NotAsking ∷ []) }
     {
         if is_bad_sid(sid) {
             return Some(Refusal::BadSid);
@@ -315,7 +314,7 @@ impl<'a> Present<'a> {
 
     // The refusal of a request that replaces others.
     fn refuse_replace(&self, receiver: u8, sid: u16, amount: Amount, heard: u64) -> Option<Refusal>
-        ensures { result ≡ refusal_of self.now.config self.now.history
+        ensures { result ≡ refusal_in self.now.config self.now.left
             (Call.Replace receiver sid amount heard) }
     {
         match self.refuse_asker(sid) {
@@ -329,10 +328,10 @@ impl<'a> Present<'a> {
         ensures { result ≡ first_of (
             refused_if (nat_le self.now.config.receivers receiver) Refusal.BadReceiver ∷
             refused_if (is_great_amount self.now.config amount) Refusal.BadBytes ∷
-            refused_if (nat_lt heard (slice_index (situation_of self.now.config self.now.history).progress receiver))
-            (Refusal.Acked (slice_index (situation_of self.now.config self.now.history).progress receiver)) ∷
-            refused_if (nat_le (next_after self.now.config self.now.history) heard)
-            (Refusal.Ahead (next_after self.now.config self.now.history)) ∷ []) }
+            refused_if (nat_lt heard (slice_index self.now.left.progress receiver))
+            (Refusal.Acked (slice_index self.now.left.progress receiver)) ∷
+            refused_if (nat_le self.now.left.next heard)
+            (Refusal.Ahead self.now.left.next) ∷ []) }
     {
         if receiver >= self.state.config.receivers() {
             Some(Refusal::BadReceiver)
@@ -346,7 +345,7 @@ impl<'a> Present<'a> {
     // The minislot before which a receiver has handed in every request that it heard.
     fn progress_of(&self, receiver: u8) -> u64
         requires { receiver < self.now.config.receivers }
-        ensures { result ≡ slice_index (situation_of self.now.config self.now.history).progress receiver }
+        ensures { result ≡ slice_index self.now.left.progress receiver }
     {
         self.state.progress[usize::from(receiver)]
     }
@@ -355,10 +354,10 @@ impl<'a> Present<'a> {
     fn refuse_time(&self, receiver: u8, heard: u64) -> Option<Refusal>
         requires { receiver < self.now.config.receivers }
         ensures { result ≡ first_of (
-            refused_if (nat_lt heard (slice_index (situation_of self.now.config self.now.history).progress receiver))
-            (Refusal.Acked (slice_index (situation_of self.now.config self.now.history).progress receiver)) ∷
-            refused_if (nat_le (next_after self.now.config self.now.history) heard)
-            (Refusal.Ahead (next_after self.now.config self.now.history)) ∷ []) }
+            refused_if (nat_lt heard (slice_index self.now.left.progress receiver))
+            (Refusal.Acked (slice_index self.now.left.progress receiver)) ∷
+            refused_if (nat_le self.now.left.next heard)
+            (Refusal.Ahead self.now.left.next) ∷ []) }
     {
         let progress = self.progress_of(receiver);
         if heard < progress {
@@ -375,10 +374,10 @@ impl<'a> Present<'a> {
         ensures { result ≡ first_of (
             refused_if (nat_le self.now.config.receivers receiver) Refusal.BadReceiver ∷
             refused_if (is_bad_amount self.now.config amount) Refusal.BadBytes ∷
-            refused_if (nat_lt heard (slice_index (situation_of self.now.config self.now.history).progress receiver))
-            (Refusal.Acked (slice_index (situation_of self.now.config self.now.history).progress receiver)) ∷
-            refused_if (nat_le (next_after self.now.config self.now.history) heard)
-            (Refusal.Ahead (next_after self.now.config self.now.history)) ∷ []) }
+            refused_if (nat_lt heard (slice_index self.now.left.progress receiver))
+            (Refusal.Acked (slice_index self.now.left.progress receiver)) ∷
+            refused_if (nat_le self.now.left.next heard)
+            (Refusal.Ahead self.now.left.next) ∷ []) }
     {
         if receiver >= self.state.config.receivers() {
             Some(Refusal::BadReceiver)
@@ -391,7 +390,7 @@ impl<'a> Present<'a> {
 
     // The refusal of a receiver's progress.
     fn refuse_progress(&self, receiver: u8, upto: u64) -> Option<Refusal>
-        ensures { result ≡ refusal_of self.now.config self.now.history (Call.Heard receiver upto) }
+        ensures { result ≡ refusal_in self.now.config self.now.left (Call.Heard receiver upto) }
     {
         if receiver >= self.state.config.receivers() {
             return Some(Refusal::BadReceiver);
@@ -408,7 +407,7 @@ impl<'a> Present<'a> {
 
     // The refusal of a Reserve.
     fn refuse_reserve(&self, usage: Usage, slots: u32) -> Option<Refusal>
-        ensures { result ≡ refusal_of self.now.config self.now.history (Call.Reserve usage slots) }
+        ensures { result ≡ refusal_in self.now.config self.now.left (Call.Reserve usage slots) }
     {
         let config = &self.state.config;
         if is_to_bad_sid(usage) {
@@ -424,7 +423,7 @@ impl<'a> Present<'a> {
 
     // The refusal of a build.
     fn refuse_build(&self, now: u64) -> Option<Refusal>
-        ensures { result ≡ refusal_of self.now.config self.now.history (Call.Build now) }
+        ensures { result ≡ refusal_in self.now.config self.now.left (Call.Build now) }
     {
         let next = self.state.next;
         if now > LAST_CLOCK {
@@ -440,7 +439,7 @@ impl<'a> Present<'a> {
 
     // The refusal of a skip.
     fn refuse_skip(&self, now: u64) -> Option<Refusal>
-        ensures { result ≡ refusal_of self.now.config self.now.history (Call.Skip now) }
+        ensures { result ≡ refusal_in self.now.config self.now.left (Call.Skip now) }
     {
         let next = self.state.next;
         if now > LAST_CLOCK {

@@ -14,7 +14,12 @@ impl Scheduler {
         requires empty { room.items ≡ [] }
         requires reserved { state.config.calls ≤ vec_capacity room }
         ensures { result
-            ≡ record { config = state.config; history = ledger; handed = length ledger } }
+            ≡ record {
+              config = state.config;
+              from = ledger.from;
+              history = ledger.history;
+              handed = length ledger.history;
+            } }
     {
         Scheduler {
             state,

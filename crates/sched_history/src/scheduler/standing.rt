@@ -4,9 +4,9 @@ ghost use Rattle.std.specs.Prelude.{◌≡◌, [], IfOk, OnErr, filter, if◌the
 ghost use Rattle.std.specs.List.{AllByRecursion};
 ghost use Rattle.flow_book.specs.Choice.{HasStartedBy};
 ghost use Rattle.flow_book.specs.Standing.{waits_so};
-ghost use Rattle.sched_history.specs.Facts.{waits_by};
-ghost use Rattle.sched_history.specs.History.{IsStep};
-ghost use Rattle.sched_history.specs.Machine.{MayLackMemory};
+ghost use Rattle.sched_history.specs.Facts.{waits_left};
+ghost use Rattle.sched_history.specs.History.{IsStepIn};
+ghost use Rattle.sched_history.specs.Machine.{MayLackMemoryIn};
 ghost use Rattle.sched_history.specs.State.{settles_next};
 
 use super::present::Present;
@@ -38,10 +38,10 @@ impl<'a> Present<'a> {
         entry: &Entry,
         standing: Standing,
     ) -> Result<Vec<u16>, AllocError>
-        ensures waits { IfOk result (λ sids. IsStep self.now.config self.now.history entry.now.call entry.now.reply
-            → sids.items ≡ waits_by standing self.now.config self.now.history entry.now.reply) }
+        ensures waits { IfOk result (λ sids. IsStepIn self.now.config self.now.left entry.now.call entry.now.reply
+            → sids.items ≡ waits_left standing self.now.config self.now.left entry.now.reply) }
         ensures memory { OnErr result
-            (MayLackMemory self.now.config self.now.history entry.now.call) }
+            (MayLackMemoryIn self.now.config self.now.left entry.now.call) }
     {
         let Call::Build { .. } = entry.call else {
             return Ok(Vec::new(alloc));

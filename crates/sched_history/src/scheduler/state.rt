@@ -19,7 +19,8 @@ ghost use Rattle.sched_history.specs.Time.{least, IsFirstStart};
 ghost use Rattle.sched_history.specs.Situation.{Situation, situation_of};
 ghost use Rattle.sched_history.specs.History.{flow_status, IsNextMapIn};
 ghost use Rattle.sched_history.specs.Reserves.{waiting_in};
-ghost use Rattle.sched_history.specs.State.{next_demand, settles_next, IsStateAfter, IsOpenTo, IsOpen, IsBuildAfter, build_of};
+ghost use Rattle.sched_history.specs.State.{next_demand, settles_next, IsStateAfter, IsOpenTo, IsOpen, build_of};
+ghost use Rattle.sched_history.specs.Planned.{IsBuildAfter};
 ghost use Rattle.sched_history.specs.Facts.{IsWithinAsked};
 
 use super::planned::Planned;

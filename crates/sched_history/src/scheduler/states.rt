@@ -1,7 +1,8 @@
 //! The state after a history, told from what is kept of it.
 
 ghost use Rattle.std.specs.Prelude.{◌≡◌, ◌<◌, IfOk, Some, length, map, option_map, slice_get, take};
-ghost use Rattle.sched_history.specs.ChannelState.{flow_state_in, reserve_state, state_of};
+ghost use Rattle.sched_history.specs.ChannelState.{flow_state_in, reserve_state, state_in};
+ghost use Rattle.sched_history.specs.Machine.{left_now};
 
 use super::Scheduler;
 use super::present::Present;
@@ -62,7 +63,7 @@ fn reserves_of(alloc: Global, reserves: &Reserves) -> Result<ReserveStates, Allo
 impl<'a> Present<'a> {
     // The state after the history.
     pub(crate) fn state(&self, alloc: Global) -> Result<ChannelState, AllocError>
-        ensures { IfOk result (λ state. state ≡ state_of self.now.config self.now.history) }
+        ensures { IfOk result (λ state. state ≡ state_in self.now.config self.now.left) }
     {
         let state = self.state;
         Ok(ChannelState {
@@ -82,7 +83,7 @@ impl<'a> Present<'a> {
 impl Scheduler {
     /// The state after the whole history: what the replies after it depend on, whatever was handed over.
     pub fn state(&self) -> Result<ChannelState, AllocError>
-        ensures { IfOk result (λ state. state ≡ state_of self.now.config self.now.history) }
+        ensures { IfOk result (λ state. state ≡ state_in self.now.config (left_now self.now)) }
     {
         self.present().state(*self.entries.allocator())
     }

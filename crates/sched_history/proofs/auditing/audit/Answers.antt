@@ -3,9 +3,10 @@ use Rattle.std.proofs.Common.{ℕ, Result, Ok, Err, length, refl, ap, subst, ari
 use Rattle.std.proofs.lemmas.Option.{slice_get_read}
 use Rattle.sched_history.specs.declared.fault.AuditFault.{AuditFault}
 use Rattle.sched_history.specs.declared.fault.AuditFault.TheVariants.{Illegal, Memory}
-use Rattle.sched_history.specs.History.{IsStep}
+use Rattle.sched_history.specs.Since.{IsStepSince}
 use Rattle.sched_history.specs.Machine.{Past}
 use Rattle.sched_history.specs.Audit.{IsFirstIllegal}
+use Rattle.sched_history.proofs.situations.Starting.{IsLegal-started, IsStepSince-start}
 use Rattle.sched_history.proofs.state.Judging.{IsFirstIllegal-not}
 use Rattle.sched_history.proofs.auditing.audit.Goals as goal
 
@@ -26,9 +27,10 @@ returns-in-Err-Illegal-clause-illegal c = λ i is.
     let first : IsFirstIllegal c.args.config.now h index = record {
       entry = e;
       stands = slice_get_read h (length h) index e refl (omega arith) c.index-entries-index.is;
-      legal_before = c.loop-index.invariant.legal;
-      no_step = subst (λ (p : Past). IsStep p.config p.history e.call e.reply → ⊥) c.loop-index.invariant.taken
-          ((rw c.in-Err-Illegal.field-0-is at c.in-Err-Illegal.ensures).illegal refl);
+      legal_before = IsLegal-started c.args.config.now _ c.loop-index.invariant.legal;
+      no_step = λ step. subst (λ (p : Past). IsStepSince p.config p.from p.history e.call e.reply → ⊥)
+          c.loop-index.invariant.taken ((rw c.in-Err-Illegal.field-0-is at c.in-Err-Illegal.ensures).illegal refl)
+          (IsStepSince-start c.args.config.now _ c.loop-index.invariant.legal e.call e.reply step);
     } in
     subst (λ n. IsFirstIllegal c.args.config.now h n) (ap named is) first
 

@@ -15,5 +15,5 @@ pub returns-clause-made : goal.returns-clause-made
 returns-clause-made c =
     let a = c.call.ensures in
     let m = c.args.scheduler.now in
-    MakesCall-from _ _ c.args.place _ c.call.result (rw c.stamp_at.ensures at a.recorded) a.step (room-in m c.call.result c.requires a.room) a.err
-    (full-whole-history m c.call.result HistoryFull (a.whole c.requires) a.full) a.memory
+    MakesCall-from _ _ c.args.place _ c.call.result (rw c.stamp_at.ensures at a.recorded) a.step (room-in m c.call.result c.requires.whole a.room) a.err
+    (full-whole-history m c.call.result HistoryFull (a.whole c.requires.whole c.requires.first) a.full) a.memory

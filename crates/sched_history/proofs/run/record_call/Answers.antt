@@ -11,7 +11,7 @@ pub returns-in-Ok : goal.returns-in-Ok
 returns-in-Ok c =
     let m = c.args.scheduler.now in
     let told = c.in-Ok.ensures in
-    let room = room-whole-history m c.requires told.room in
+    let room = room-whole-history m c.requires.whole told.room in
     let entered = rw c.in-Ok.is at c.record.follows.holds-at-none in (
       (
         refl,
@@ -35,7 +35,7 @@ returns-in-Err c =
         refl,
         λ _. tt,
         MakesCall-from m _ c.args.place c.args.call (Err why) tt tt tt entered.0
-            (full-whole-history m (Err why) HistoryFull (told.whole c.requires)
+            (full-whole-history m (Err why) HistoryFull (told.whole c.requires.whole c.requires.first)
             (same_reasons why HistoryFull _ told.full))
             (λ is. told.memory (same_reason why Memory is)),
       ),

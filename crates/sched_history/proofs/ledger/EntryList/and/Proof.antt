@@ -55,7 +55,7 @@ module _ {M : Type 1} {𝓤 : Ura M} (𝓛 : Logic 𝓤) (mem : Memory → SProp
     bound = ((κs, qs, tt, a, (before ∷ [], (other ∷ [], tt))), tt)
 
     abbrev made : list.the_row.Denot
-    made = record { items = a.0.now.items ++ a.1.0.now ∷ [] }
+    made = record { from = a.0.now.from; items = a.0.now.items ++ a.1.0.now ∷ [] }
 
     abbrev passed : Fml
     passed = owns (types_at f.signature.params κs) a (before ∷ [], (other ∷ [], tt))
@@ -69,7 +69,7 @@ module _ {M : Type 1} {𝓤 : Ura M} (𝓛 : Logic 𝓤) (mem : Memory → SProp
         returns ! (look_at ! 0 refl) $ free_all ! refl $
         suffices ! _ (ends_at 𝓛 f.ended stayed (f.clauses 𝓛 mem run) bound (vstruct vnil) made (tt, (tt, tt))
         (tt, (tt, tt))) $
-        says ! refl $ pure_i ! (list.the_row.own_val made (vstruct vnil ∷ []))
+        says ! (refl, refl) $ pure_i ! (list.the_row.own_val made (vstruct vnil ∷ []))
         ((λ vss. (tt, tt)), tt) ((tt, (refl, tt)), tt) $
         move ! (1 ∷ 2 ∷ 0 ∷ []) $ done !)
 

@@ -1,7 +1,7 @@
 -- The answer to an open call is entered.
 use Rattle.std.proofs.Common.{◌≡◌, false, sym, subst, Result, Ok, Err, OnErr}
-use Rattle.sched_history.specs.Situation.{situation_of}
-use Rattle.sched_history.specs.Machine.{is_full, TakesMemory}
+use Rattle.sched_history.specs.Machine.{Machine, is_full, left_now, TakesMemoryIn}
+use Rattle.sched_history.specs.State.{machine_of}
 use Rattle.sched_history.proofs.state.Recording.{IsOpenTo-inside, IsSound-answered, IsRecorded-answered}
 use Rattle.sched_history.proofs.state.Recording.{room-ledger, room-reserved}
 use Rattle.sched_history.proofs.scheduler.Scheduler.accept.Goals as goal
@@ -9,7 +9,7 @@ use Rattle.sched_history.proofs.scheduler.Scheduler.accept.Goals as goal
 pub answer-requires : goal.answer-requires
 answer-requires c =
     let a = c.self.inside in (
-      situation_of a.state.config a.ledger,
+      left_now (machine_of a),
       IsOpenTo-inside a c.args.self.now c.self.view_is c.args.call c.self.invariant c.requires.room
           c.requires.unrefused,
     )
@@ -24,8 +24,8 @@ returns-in_err-answer-clause-memory c =
     let opens = IsOpenTo-inside a c.args.self.now c.self.view_is c.args.call c.self.invariant c.requires.room
     c.requires.unrefused in
     on-err c.from_residual.result _
-    (subst (λ m. TakesMemory m.config m.history c.args.call) c.self.view_is
-    (c.in_err-answer.ensures.memory (situation_of a.state.config a.ledger) opens))
+    (subst (λ (m : Machine). TakesMemoryIn m.config (left_now m) c.args.call) c.self.view_is
+    (c.in_err-answer.ensures.memory (left_now (machine_of a)) opens))
 
 pub returns-clause-recorded : goal.returns-clause-recorded
 returns-clause-recorded c =
@@ -37,7 +37,7 @@ returns-clause-recorded c =
       IsRecorded-answered a
           (record { state = c.answer.new.self; ledger = c.note.new.ledger; entries = c.note.new.entries })
           c.args.stamp c.args.call answer.answer.reply c.self.invariant c.note.ensures.counted c.note.ensures.items
-          opens (answer.ensures.answered (situation_of a.state.config a.ledger) opens) c.args.self.now c.self.view_is,
+          opens (answer.ensures.answered (left_now (machine_of a)) opens) c.args.self.now c.self.view_is,
       answer.ensures.copied,
     )
 
@@ -48,7 +48,7 @@ invariant_of-self-2 c =
     c.requires.unrefused in
     IsSound-answered a _ c.args.stamp c.args.call c.in_ok-answer.answer.reply c.self.invariant
     c.note.ensures.counted c.note.ensures.items opens (c.in_ok-answer.ensures.answered
-    (situation_of a.state.config a.ledger) opens)
+    (left_now (machine_of a)) opens)
     c.note.ensures.capacity (subst (λ m. is_full m ≡ false) (sym c.self.view_is) c.requires.room)
 
 pub note-requires-clause-few : goal.note-requires-clause-few

@@ -5,10 +5,10 @@ use Rattle.sched_calls.specs.declared.frame_map.FrameMap.{FrameMap}
 use Rattle.sched_calls.specs.declared.call.Call.TheVariants.{Build}
 use Rattle.sched_calls.specs.declared.reply.Reply.TheVariants.{Built}
 use Rattle.sched_history.specs.declared.scheduler.Scheduler.TheInside.{Inside}
-use Rattle.sched_history.specs.Situation.{situation_of}
-use Rattle.sched_history.specs.Planned.{IsPlanAfter}
-use Rattle.sched_history.specs.State.{IsBuildAfter, build_of}
-use Rattle.sched_history.proofs.state.Recording.{IsOpenTo-inside, IsBuildAfter-planned, IsSound-planned}
+use Rattle.sched_history.specs.Machine.{Machine, left_now}
+use Rattle.sched_history.specs.Planned.{IsBuildAfter, IsPlanAfter}
+use Rattle.sched_history.specs.State.{machine_of, build_of}
+use Rattle.sched_history.proofs.state.Recording.{IsOpenTo-inside, IsSound-planned}
 use Rattle.sched_history.proofs.state.Recording.{IsRecorded-planned, room-ledger, room-reserved}
 use Rattle.sched_history.proofs.scheduler.Scheduler.commit.Goals as goal
 
@@ -20,10 +20,9 @@ commit-reply-requires c =
     let p = build_of now c.planned.inside.frame in
     let fits = subst (IsPlanAfter m) (sym c.planned.view_is) c.requires in (
       now,
-      situation_of a.state.config a.ledger,
+      left_now (machine_of a),
       IsOpenTo-inside a m c.self.view_is (Build now) c.self.invariant fits.room fits.unrefused,
-      subst (λ n. IsBuildAfter n.config (situation_of n.config n.history) p) (sym c.self.view_is)
-          (IsBuildAfter-planned m p fits),
+      subst (λ (n : Machine). IsBuildAfter n.config (left_now n) p) (sym c.self.view_is) fits.build,
     )
 
 pub invariant_of-self : goal.invariant_of-self
@@ -39,7 +38,7 @@ returns-clause-built c = ap (λ m. Built m) (c.planned.invariant ∙ ap (λ p. p
 pub returns-clause-encodable : goal.returns-clause-encodable
 returns-clause-encodable c =
     subst (λ (m : FrameMap). IsWellFormed m.wire)
-    (sym (c.planned.invariant ∙ ap (λ p. p.map) c.planned.view_is)) c.requires.encodable
+    (sym (c.planned.invariant ∙ ap (λ p. p.map) c.planned.view_is)) c.requires.build.encodable
 
 pub returns-clause-recorded : goal.returns-clause-recorded
 returns-clause-recorded c =
@@ -74,7 +73,7 @@ returns-clause-step c =
     rw (← same, ← ap (λ p. p.clock) c.planned.view_is) (one.step)
 
 pub returns-clause-legal : goal.returns-clause-legal
-returns-clause-legal c = (invariant_of-self c).legal
+returns-clause-legal c = (invariant_of-self c).past.legal
 
 pub note-requires-clause-few : goal.note-requires-clause-few
 note-requires-clause-few c = room-ledger c.self.inside c.args.self.now c.self.view_is c.requires.room

@@ -6,7 +6,7 @@ use Rattle.sched_calls.specs.declared.reply.Unrecorded.TheVariants.{HistoryFull,
 use Rattle.std.proofs.lemmas.List.{length_push}
 use Rattle.std.proofs.lemmas.Result.{err_from_is_err_and}
 use Rattle.sched_calls.specs.Reply.{IsEncodable}
-use Rattle.sched_history.specs.History.{IsStep, IsLegal}
+use Rattle.sched_history.specs.Since.{IsStepSince, IsLegalSince}
 use Rattle.sched_history.specs.Machine.{Machine, kept_of}
 use Rattle.sched_history.proofs.runs.Reasons.{same_reason, same_reasons}
 use Rattle.sched_history.proofs.state.Recording.{kept-newest}
@@ -38,13 +38,13 @@ returns c =
         (
           c.self.view_is ∙ one.entered
               ∙ ap (λ (x : Entry). record old { history = old.history ++ x ∷ [] }) (sym is),
-          subst (λ (m : Machine). IsLegal m.config m.history) (sym c.self.view_is) c.make.ensures.legal,
+          subst (λ (m : Machine). IsLegalSince m.config m.from m.history) (sym c.self.view_is) c.make.ensures.legal,
         ),
       ),
       record {
         recorded = tt;
         entry = is ∙ ap (λ (r : Reply). record { stamp = stamp; call = call; reply = r }) same;
-        step = subst (IsStep old.config old.history call) same one.step;
+        step = subst (IsStepSince old.config old.from old.history call) same one.step;
         encodable = subst IsEncodable same one.encodable;
         room = c.in_ok-make.ensures.room;
         full = ((λ is. absurd cc), (λ full. absurd (let none = sym full ∙ c.in_ok-make.ensures.room in cc)));

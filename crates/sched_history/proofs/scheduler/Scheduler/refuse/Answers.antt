@@ -1,9 +1,9 @@
 -- A refusal is entered, and changes nothing else.
 use Rattle.std.proofs.Common.{◌≡◌, false, refl, sym, subst}
 use Rattle.sched_calls.specs.declared.reply.Reply.TheVariants.{Refused}
-use Rattle.sched_history.specs.Situation.{situation_of}
-use Rattle.sched_history.specs.History.{IsStep}
-use Rattle.sched_history.specs.Machine.{is_full}
+use Rattle.sched_history.specs.Machine.{Machine, left_now, is_full}
+use Rattle.sched_history.specs.Since.{IsStepSince}
+use Rattle.sched_history.specs.State.{machine_of}
 use Rattle.sched_history.proofs.situations.Quiet.{IsQuiet-refused}
 use Rattle.sched_history.proofs.state.Moves.{IsStateAfter-quiet}
 use Rattle.sched_history.proofs.state.Recording.{IsSound-push, IsRecorded-step, room-ledger, room-reserved}
@@ -17,8 +17,8 @@ invariant_of-self c =
     IsSound-push a _ (record { stamp = c.args.stamp; call = c.args.call; reply = reply }) c.self.invariant
     c.note.ensures.counted c.note.ensures.items c.note.ensures.capacity refl
     (subst (λ m. is_full m ≡ false) was c.requires.room)
-    (subst (λ m. IsStep m.config m.history c.args.call reply) was c.requires.step) tt
-    (IsStateAfter-quiet a.state (situation_of a.state.config a.ledger) c.self.invariant.is_after c.args.call reply
+    (subst (λ (m : Machine). IsStepSince m.config m.from m.history c.args.call reply) was c.requires.step) tt
+    (IsStateAfter-quiet a.state (left_now (machine_of a)) c.self.invariant.past.is_after c.args.call reply
     (IsQuiet-refused a.state.config c.args.call c.args.refusal))
 
 pub returns : goal.returns
@@ -28,7 +28,8 @@ returns c =
     IsRecorded-step a (record { state = a.state; ledger = c.note.new.ledger; entries = c.note.new.entries })
     c.args.stamp c.args.call reply c.self.invariant c.note.ensures.counted c.note.ensures.items
     c.args.self.now c.self.view_is refl
-    (subst (λ m. IsStep m.config m.history c.args.call reply) (sym c.self.view_is) c.requires.step) tt
+    (subst (λ (m : Machine). IsStepSince m.config m.from m.history c.args.call reply) (sym c.self.view_is)
+    c.requires.step) tt
 
 pub note-requires-clause-few : goal.note-requires-clause-few
 note-requires-clause-few c = room-ledger c.self.inside c.args.self.now c.self.view_is c.requires.room

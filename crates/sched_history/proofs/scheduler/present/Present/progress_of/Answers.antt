@@ -1,7 +1,7 @@
 -- What is kept of a receiver is what is left of it.
 use Rattle.std.proofs.Common.{◌<◌, ◌∙◌, ap, arith, slice_index}
 use Rattle.minislots.proofs.Bounds.{bounds_of}
-use Rattle.sched_history.specs.Situation.{situation_of}
+use Rattle.sched_history.specs.Since.{left_since}
 use Rattle.sched_history.proofs.state.Present.{progress-kept}
 use Rattle.sched_history.proofs.scheduler.present.Present.progress_of.Goals as goal
 
@@ -13,6 +13,7 @@ bounds-self-inside-from c =
 pub returns : goal.returns
 returns c =
     let s = c.self.inside.state.now in
+    let l = c.self.inside.ledger.now in
     let below : c.args.receiver < s.config.receivers = rw (← c.self.view_is) at c.requires in
     rw (← c.self.view_is) (ap (λ n. slice_index s.progress n) c.from.ensures
-    ∙ progress-kept s (situation_of s.config c.self.inside.ledger.now) c.self.invariant.is_after c.args.receiver below)
+    ∙ progress-kept s (left_since s.config l.from l.history) c.self.invariant.is_after c.args.receiver below)
